@@ -1,0 +1,1 @@
+// No code: the definitions of what a scan means stand in specs/, their laws in proofs/.
