@@ -53,6 +53,11 @@ isState book bytes = not (nonempty bytes) || some-of (prefix bytes) (keywords (b
 
 -- What follows is said over any set of states, given by its test.
 
+-- A set of states has the empty string and, with some bytes, every prefix of them. The prefixes of all keywords are such a set.
+pub record PrefixClosed (state : List ℕ → Bool) : Type 0 where
+  pub empty : So (state [])
+  pub shorter : (start whole : List ℕ) → Prefix start whole → So (state whole) → So (state start)
+
 -- After any bytes the state is the longest suffix of them that is a state.
 pub record After (state : List ℕ → Bool) (bytes reached : List ℕ) : Type 0 where
   pub ends : Suffix reached bytes
@@ -131,3 +136,16 @@ stepsUpTo state letter (suc n) = stepsUpTo state letter n + stepsAt state letter
 unfoldable pub steps : Book → List ℕ → ℕ
 unfolding isState stepsUpTo
 steps book letter = stepsUpTo (isState book) letter (length letter)
+
+-- ── What bounds the steps ──
+
+-- How many nonempty states are suffixes of some bytes: so many failures lead from a state to the empty one.
+unfoldable pub depth : (List ℕ → Bool) → List ℕ → ℕ
+unfolding suffixes count nonempty
+depth state u = count (λ s. state s && nonempty s) (suffixes u)
+
+-- Some bytes without the last one; the empty string, which has none, is given itself.
+unfoldable pub parent : List ℕ → List ℕ
+parent [] = []
+parent (x ∷ []) = []
+parent (x ∷ y ∷ u) = x ∷ parent (y ∷ u)
