@@ -1,8 +1,10 @@
 -- A letter in parts: which bytes a call takes, what it reports and counts, and what a row of calls comes to.
 -- Assumes nothing: these are definitions.
-use mathlib.Core.Bool.{Bool, cond}
+use mathlib.Core.Path.{_≡_}
+use mathlib.Core.Logic.{_⊎_}
+use mathlib.Core.Bool.{cond}
 use mathlib.Core.List.{List, [], _∷_, _++_}
-use Prim.Native.Nat.{ℕ, zero, suc, _+_, _-_}
+use Prim.Native.Nat.{ℕ, suc, _+_, _-_, _≤_, _<_}
 use lib.Dec.{leb}
 use lib.ListN.{length, take}
 use Rattle.meaning.specs.Books.{Book}
@@ -21,8 +23,20 @@ unfolding isState after stepsFor
 stepsAfter book x [] = 0
 stepsAfter book x (a ∷ y) = stepsFor (isState book) (after (isState book) x) a + stepsAfter book (x ++ a ∷ []) y
 
+-- The room that is left once the bytes y have been read after the bytes x, where there was room for so many reports.
+unfoldable pub freeRoom : Book → List ℕ → List ℕ → ℕ → ℕ
+unfolding reportsAfter
+freeRoom book x y room = room - length (reportsAfter book x y)
+
 -- The taking rule: bytes are taken one by one while any remain and the free room is at least the number of phrases.
--- Here of the bytes y after the bytes x, with free room for so many reports: how many bytes are taken.
+-- So many bytes of a part are taken, after the bytes x, with room for so many reports: each of them finds enough free room,
+-- and the taking stops because no byte remains or the free room is too small.
+pub record Takes (book : Book) (x part : List ℕ) (room taken : ℕ) : Type 0 where
+  pub offered : taken ≤ length part
+  pub enough : (k : ℕ) → k < taken → length (book .phrases) ≤ freeRoom book x (take k part) room
+  pub stops : (taken ≡ length part) ⊎ (freeRoom book x (take taken part) room < length (book .phrases))
+
+-- The same as a count.
 unfoldable pub takes : Book → List ℕ → List ℕ → ℕ → ℕ
 unfolding reportsAt
 takes book x [] room = 0
