@@ -4,8 +4,9 @@ use mathlib.Core.Path.{_≡_, refl, sym, ap, _∙_}
 use mathlib.Core.Logic.{inr, ⊎-elim}
 use mathlib.Core.Bool.{Bool, true, false, So, cond, false≢true}
 use mathlib.Core.List.{List, [], _∷_, _++_, append-nil}
-use Prim.Native.Nat.{ℕ}
+use Prim.Native.Nat.{ℕ, _≤_}
 use native.Mathlib.Omega.{arith}
+use lib.ListN.{length}
 use Rattle.meaning.specs.Automaton.{Suffix, PrefixClosed, After, after, failure}
 use Rattle.meaning.proofs.Truth.{untrue}
 use Rattle.meaning.proofs.Suffixes.{suffix-self, suffix-cons, suffix-nil, suffix-length, suffix-one}
@@ -63,7 +64,8 @@ module _ (state : List ℕ → Bool) where
   pub after-only : (t s : List ℕ) → After state t s → s ≡ after state t
   after-only t s h =
       let found = after-found t s (h .ends) (h .is) in
-      suffix-one (h .ends) (after-suffix t) (omega (arith, suffix-length (found .1), h .longest (after state t) (after-suffix t) (found .0)))
+      let shorter : length (after state t) ≤ length s = h .longest (after state t) (after-suffix t) (found .0) in
+      suffix-one (h .ends) (after-suffix t) (omega (arith, suffix-length (found .1)))
 
   -- ── One byte more ──
 

@@ -18,7 +18,8 @@ use Rattle.meaning.proofs.Truth.{same-truth}
 use Rattle.meaning.proofs.Tests.{ends-iff}
 
 -- Places of pieces that end one after the other never fall.
-ends-rise : (width : List ℕ → ℕ) (letter : List ℕ) (pieces : List Piece) (previous place : ℕ) → Ends width letter previous pieces place → previous ≤ place
+ends-rise : (width : List ℕ → ℕ) (letter : List ℕ) (pieces : List Piece) (previous place : ℕ)
+    → Ends width letter previous pieces place → previous ≤ place
 unfolding Ends
 ends-rise width letter [] previous place h = omega arith
 ends-rise width letter (piece ∷ rest) previous place h = omega (arith, ends-rise width letter rest (h .0) place (h .2), h .1 .spans)
@@ -42,10 +43,18 @@ module _ (x y : List ℕ) where
   follows-part : (width : List ℕ → ℕ) (piece : Piece) (previous place : ℕ) → place ≤ length x
       → Follows width (x ++ y) piece previous place ↔ Follows width x piece previous place
   follows-part width piece previous place l = (
-    λ f. let k = bytesAfter-part previous (f .between) (omega arith) in
-        record { filled = fills-part (piece .keyword) place l .0 (f .filled); between = f .between; spans = f .spans; admitted = rw (← k) (f .admitted) },
-    λ f. let k = bytesAfter-part previous (f .between) (omega arith) in
-        record { filled = fills-part (piece .keyword) place l .1 (f .filled); between = f .between; spans = f .spans; admitted = rw k (f .admitted) },
+    λ f. record {
+      filled = fills-part (piece .keyword) place l .0 (f .filled);
+      between = f .between;
+      spans = f .spans;
+      admitted = let k = bytesAfter-part previous (f .between) (omega arith) in rw (← k) (f .admitted);
+    },
+    λ f. record {
+      filled = fills-part (piece .keyword) place l .1 (f .filled);
+      between = f .between;
+      spans = f .spans;
+      admitted = let k = bytesAfter-part previous (f .between) (omega arith) in rw k (f .admitted);
+    },
   )
 
   pub ends-part : (width : List ℕ → ℕ) (pieces : List Piece) (previous place : ℕ) → place ≤ length x
@@ -61,18 +70,21 @@ module _ (x y : List ℕ) where
 
   pub ends-kept : (width : List ℕ → ℕ) (pieces : List Piece) (previous place : ℕ) → place ≤ length x
       → ends width (x ++ y) previous pieces place ≡ ends width x previous pieces place
-  ends-kept width pieces previous place l = same-truth _ _ (
-    λ h. ends-iff width x pieces previous place .1 (ends-part width pieces previous place l .0 (ends-iff width (x ++ y) pieces previous place .0 h)),
-    λ h. ends-iff width (x ++ y) pieces previous place .1 (ends-part width pieces previous place l .1 (ends-iff width x pieces previous place .0 h)),
-  )
+  ends-kept width pieces previous place l =
+      let whole = ends-iff width (x ++ y) pieces previous place in
+      let part = ends-iff width x pieces previous place in
+      let same = ends-part width pieces previous place l in
+      same-truth _ _ (λ h. part .1 (same .0 (whole .0 h)), λ h. whole .1 (same .1 (part .0 h)))
 
-  pub matches-kept : (book : Book) (phrase : Phrase) (place : ℕ) → place ≤ length x → matches book phrase (x ++ y) place ≡ matches book phrase x place
+  pub matches-kept : (book : Book) (phrase : Phrase) (place : ℕ) → place ≤ length x
+      → matches book phrase (x ++ y) place ≡ matches book phrase x place
   unfolding matches
   matches-kept book phrase place l = ends-kept (widthIn book) (phrase .pieces) 0 place l
 
   pub reportsAt-kept : (book : Book) (place : ℕ) → place ≤ length x → reportsAt book (x ++ y) place ≡ reportsAt book x place
   unfolding reportsAt
-  reportsAt-kept book place l = ap (λ f. map (λ p. reportOf p place) (choose f (book .phrases))) (fun-ext (λ (p : Phrase). matches-kept book p place l))
+  reportsAt-kept book place l =
+      ap (λ f. map (λ p. reportOf p place) (choose f (book .phrases))) (fun-ext (λ (p : Phrase). matches-kept book p place l))
 
   pub reportsUpTo-kept : (book : Book) (n : ℕ) → n ≤ length x → reportsUpTo book (x ++ y) n ≡ reportsUpTo book x n
   unfolding reportsUpTo
@@ -93,8 +105,13 @@ module _ (book : Book) where
 
   pub steps-snoc : (x : List ℕ) (a : ℕ) → steps book (x ++ a ∷ []) ≡ steps book x + stepsFor (isState book) (after (isState book) x) a
   unfolding steps
-  steps-snoc x a =
-      rw (length-append x (a ∷ []), add-one, stepsUpTo-kept x (a ∷ []) (isState book) (length x) (omega arith), take-append-seam x (a ∷ []), getD-append-seam x a [] 0)
+  steps-snoc x a = rw (
+    length-append x (a ∷ []),
+    add-one,
+    stepsUpTo-kept x (a ∷ []) (isState book) (length x) (omega arith),
+    take-append-seam x (a ∷ []),
+    getD-append-seam x a [] 0,
+  )
 
   -- ── A letter cut in two ──
 

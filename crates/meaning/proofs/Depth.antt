@@ -54,7 +54,8 @@ module _ (state : List ℕ → Bool) where
   depth-after [] = refl
   depth-after (x ∷ u) = go (state (x ∷ u)) refl (depth-after u)
     where
-      go : (v : Bool) → state (x ∷ u) ≡ v → depth state (after state u) ≡ depth state u → depth state (cond v (x ∷ u) (after state u)) ≡ depth state (x ∷ u)
+      go : (v : Bool) → state (x ∷ u) ≡ v → depth state (after state u) ≡ depth state u
+          → depth state (cond v (x ∷ u) (after state u)) ≡ depth state (x ∷ u)
       go true e ih = refl
       go false e ih = rw (depth-cons x u, e) (omega arith)
 
@@ -77,11 +78,12 @@ module _ (state : List ℕ → Bool) where
     steps-depth [] a = rw (steps-root state a, root-parent a) (omega arith)
     steps-depth (x ∷ u) a = go (state (x ∷ u ++ a ∷ [])) refl (steps-depth u a)
       where
-        go : (v : Bool) → state (x ∷ u ++ a ∷ []) ≡ v → stepsFor state u a + depth state (parent (after state (u ++ a ∷ []))) ≡ depth state u
+        go : (v : Bool) → state (x ∷ u ++ a ∷ []) ≡ v
+            → stepsFor state u a + depth state (parent (after state (u ++ a ∷ []))) ≡ depth state u
             → stepsFor state (x ∷ u) a + depth state (parent (after state (x ∷ u ++ a ∷ []))) ≡ depth state (x ∷ u)
         go true e ih =
-            rw (after-self state (x ∷ u ++ a ∷ []) e, parent-snoc (x ∷ u) a, steps-forward state (x ∷ u) a (one-shorter state closed (x ∷ u) a e) e)
-            (omega arith)
+            let h : So (state (x ∷ u)) = one-shorter state closed (x ∷ u) a e in
+            rw (after-self state (x ∷ u ++ a ∷ []) e, parent-snoc (x ∷ u) a, steps-forward state (x ∷ u) a h e) (omega arith)
         go false e ih = rw (after-tail state x (u ++ a ∷ []) e, steps-back state x u a e, depth-cons) (omega arith)
 
     -- A byte adds at most one.
@@ -98,7 +100,8 @@ module _ (state : List ℕ → Bool) where
         (last-byte u)
 
     -- The steps for the first n bytes, and the depth of the state after them, are together at most n.
-    pub steps-paid : (letter : List ℕ) (n : ℕ) → n ≤ length letter → stepsUpTo state letter n + depth state (after state (take n letter)) ≤ n
+    pub steps-paid : (letter : List ℕ) (n : ℕ) → n ≤ length letter
+        → stepsUpTo state letter n + depth state (after state (take n letter)) ≤ n
     unfolding stepsUpTo after
     steps-paid letter zero h = rw depth-nil (omega arith)
     steps-paid letter (suc n) h =

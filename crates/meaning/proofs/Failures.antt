@@ -41,7 +41,8 @@ module _ (state : List ℕ → Bool) where
   })
 
   -- A state that is a suffix of u is u itself or a suffix of u's failure: so the failures lead through all of them.
-  pub suffix-failure : (s : List ℕ) (x : ℕ) (u : List ℕ) → So (state s) → Suffix s (x ∷ u) ↔ ((s ≡ x ∷ u) ⊎ Suffix s (failure state (x ∷ u)))
+  pub suffix-failure : (s : List ℕ) (x : ℕ) (u : List ℕ) → So (state s)
+      → Suffix s (x ∷ u) ↔ ((s ≡ x ∷ u) ⊎ Suffix s (failure state (x ∷ u)))
   unfolding failure
   suffix-failure s x u h = (
     λ k. ⊎-elim inl (λ r. inr (after-longest state u s r h)) (suffix-cons s x u .0 k),
@@ -49,6 +50,7 @@ module _ (state : List ℕ → Bool) where
   )
 
   -- The failure of a child is the next state from its parent's failure.
-  pub failure-child : PrefixClosed state → (x : ℕ) (u : List ℕ) (a : ℕ) → failure state (x ∷ u ++ a ∷ []) ≡ after state (failure state (x ∷ u) ++ a ∷ [])
+  pub failure-child : PrefixClosed state → (x : ℕ) (u : List ℕ) (a : ℕ)
+      → failure state (x ∷ u ++ a ∷ []) ≡ after state (failure state (x ∷ u) ++ a ∷ [])
   unfolding failure
   failure-child closed x u a = after-step state closed u a

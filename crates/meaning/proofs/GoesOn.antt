@@ -5,7 +5,7 @@ use mathlib.Core.Logic.{_↔_, _⊎_, inl, inr, ⊎-elim}
 use mathlib.Core.Bool.{Bool, true, false, So, cond, _&&_, false≢true}
 use mathlib.Core.List.{List, [], _∷_, _++_, List·Memᴰ, List·Memᴰ·head, List·Memᴰ·tail, List·Memᴰ·not-nil, List·Memᴰ·cases-cons}
 use mathlib.Core.Option.{Option, none, some}
-use Prim.Native.Nat.{ℕ, _<_}
+use Prim.Native.Nat.{ℕ, _≤_, _<_}
 use native.Mathlib.Omega.{arith}
 use lib.ListN.{length}
 use Rattle.meaning.specs.Reports.{Sorted}
@@ -20,7 +20,8 @@ module _ {A : Type 0} (test : A → Bool) where
   first-none [] e y m h = List·Memᴰ·not-nil m
   first-none (x ∷ l) e y m h = go (test x) refl e (first-none l)
     where
-      go : (v : Bool) → test x ≡ v → cond v (some x) (first test l) ≡ none → (first test l ≡ none → (z : A) → List·Memᴰ z l → So (test z) → ⊥) → ⊥
+      go : (v : Bool) → test x ≡ v → cond v (some x) (first test l) ≡ none
+          → (first test l ≡ none → (z : A) → List·Memᴰ z l → So (test z) → ⊥) → ⊥
       go true t f ih = let z : _≡_ {A = ℕ} 0 1 = cc in omega arith
       go false t f ih = ⊎-elim (λ (p : y ≡ x). false≢true (sym t ∙ ap test (sym p) ∙ h)) (λ k. ih f y k h) (List·Memᴰ·cases-cons m)
 
@@ -71,7 +72,8 @@ module _ (state : List ℕ → Bool) (u : List ℕ) (a : ℕ) where
     go (goesOn state u a) refl,
   )
     where
-      go : (o : Option (List ℕ)) → goesOn state u a ≡ o → ((w : List ℕ) → Suffix w u → So (state w) → So (state (w ++ a ∷ [])) → ⊥) → goesOn state u a ≡ none
+      go : (o : Option (List ℕ)) → goesOn state u a ≡ o
+          → ((w : List ℕ) → Suffix w u → So (state w) → So (state (w ++ a ∷ [])) → ⊥) → goesOn state u a ≡ none
       go none e n = e
       go (some w) e n = let g : GoesOn state u a w = found w e in absurd (n w (g .ends) (g .is) (g .onward))
 
@@ -83,5 +85,7 @@ module _ (state : List ℕ → Bool) (u : List ℕ) (a : ℕ) where
       go none e g = absurd (goesOn-none-iff .0 e w (g .ends) (g .is) (g .onward))
       go (some v) e g =
           let f : GoesOn state u a v = found v e in
-          let n : length v ≡ length w = omega (arith, f .longest w (g .ends) (g .is) (g .onward), g .longest v (f .ends) (f .is) (f .onward)) in
+          let p : length w ≤ length v = f .longest w (g .ends) (g .is) (g .onward) in
+          let q : length v ≤ length w = g .longest v (f .ends) (f .is) (f .onward) in
+          let n : length v ≡ length w = omega arith in
           e ∙ ap some (suffix-one (f .ends) (g .ends) n)

@@ -43,7 +43,7 @@ unfolding latest
 latest-same f g zero h = rw (h 0 (omega arith))
 latest-same f g (suc n) h = rw (h (suc n) (omega arith), latest-same f g n (λ k l. h k (omega arith)))
 
--- Where a property of a number is one of every later number too, the latest number alone tells whether test and property hold of some number.
+-- Where a property passes from a number to every later one, the latest number alone tells whether test and property hold of some.
 pub latest-enough : (test : ℕ → Bool) (P : ℕ → Type 0) → ((c d : ℕ) → c ≤ d → P c → P d) → (n : ℕ)
     → ((c : ℕ) × (c ≤ n) × So (test c) × P c) ↔ Holds P (latest test n)
 unfolding Latest Holds

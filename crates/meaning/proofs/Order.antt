@@ -65,7 +65,7 @@ module _ (book : Book) (letter : List ℕ) where
     reports-once front report back e m = sorted-once Before (λ r b. before-not-after r r b b) front report back (rw e reports-sorted) m
 
     -- No other list has what is due and nothing else, in this order.
-    pub reports-only : (others : List Report) → Sorted Before others → ((report : Report) → List·Memᴰ report others ↔ Due book letter report)
-        → others ≡ reports book letter
+    pub reports-only : (others : List Report) → Sorted Before others
+        → ((report : Report) → List·Memᴰ report others ↔ Due book letter report) → others ≡ reports book letter
     reports-only others s same = sorted-only Before before-not-after others (reports book letter) s reports-sorted
         (λ r. (λ m. reports-iff book letter r .1 (same r .0 m), λ m. same r .1 (reports-iff book letter r .0 m)))

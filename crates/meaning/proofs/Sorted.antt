@@ -6,7 +6,8 @@ use mathlib.Core.List.{List, [], _∷_, _++_, List·Memᴰ, List·Memᴰ·head, 
 use Rattle.meaning.specs.Reports.{Sorted}
 
 module _ {A : Type 0} (R : A → A → Type 0) where
-  pub sorted-append : (xs ys : List A) → Sorted R xs → Sorted R ys → ((x y : A) → List·Memᴰ x xs → List·Memᴰ y ys → R x y) → Sorted R (xs ++ ys)
+  pub sorted-append : (xs ys : List A) → Sorted R xs → Sorted R ys
+      → ((x y : A) → List·Memᴰ x xs → List·Memᴰ y ys → R x y) → Sorted R (xs ++ ys)
   unfolding Sorted
   sorted-append [] ys p q r = q
   sorted-append (x ∷ xs) ys p q r = (
@@ -31,10 +32,14 @@ module _ {A : Type 0} (R : A → A → Type 0) where
       let tails : xs ≡ ys = sorted-only never xs ys (p .1) (q .1) (λ z. (to z, from z)) in
       cc heads
     where
+      not-later : List·Memᴰ x ys → x ≡ y
+      not-later m = ⊎-elim
+          (λ (e : y ≡ x). sym e)
+          (λ k. absurd (never x y (p .0 y k) (q .0 x m)))
+          (List·Memᴰ·cases-cons (same y .1 (List·Memᴰ·head refl)))
+
       heads : x ≡ y
-      heads = ⊎-elim (λ e. e)
-          (λ m. ⊎-elim (λ (e : y ≡ x). sym e) (λ k. absurd (never x y (p .0 y k) (q .0 x m))) (List·Memᴰ·cases-cons (same y .1 (List·Memᴰ·head refl))))
-          (List·Memᴰ·cases-cons (same x .0 (List·Memᴰ·head refl)))
+      heads = ⊎-elim (λ e. e) not-later (List·Memᴰ·cases-cons (same x .0 (List·Memᴰ·head refl)))
 
       to : (z : A) → List·Memᴰ z xs → List·Memᴰ z ys
       to z m = ⊎-elim

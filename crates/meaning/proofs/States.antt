@@ -29,7 +29,13 @@ some-of-iff test (y ∷ l) = (
 )
 
 prefix-trans : {s u v : List ℕ} → Prefix s u → Prefix u v → Prefix s v
-prefix-trans {s} {u} {v} p q = record { rest = p .rest ++ q .rest; split = sym (append-assoc s (p .rest) (q .rest)) ∙ rw (p .split) (q .split) }
+prefix-trans {s} {u} {v} p q = record {
+  rest = p .rest ++ q .rest;
+  split = sym (append-assoc s (p .rest) (q .rest)) ∙ rw (p .split) (q .split);
+}
+
+pub prefix-self : (u : List ℕ) → Prefix u u
+prefix-self u = record { rest = []; split = append-nil u }
 
 module _ (book : Book) where
   pub isState-iff : (u : List ℕ) → So (isState book u) ↔ IsState book u
@@ -46,7 +52,10 @@ module _ (book : Book) where
   -- So all that is said over any set of states holds of a book's states.
   pub isState-closed : PrefixClosed (isState book)
   unfolding isState IsState
-  isState-closed = record { empty = refl; shorter = λ start whole p h. isState-iff start .1 (shorter start whole p (isState-iff whole .0 h)) }
+  isState-closed = record {
+    empty = refl;
+    shorter = λ start whole p h. isState-iff start .1 (shorter start whole p (isState-iff whole .0 h));
+  }
     where
       shorter : (start whole : List ℕ) → Prefix start whole → IsState book whole → IsState book start
       shorter [] whole p s = inl refl
@@ -57,13 +66,14 @@ module _ (book : Book) where
 
   pub keyword-state : (keyword : List ℕ) → List·Memᴰ keyword (keywords (book .phrases)) → So (isState book keyword)
   unfolding IsState
-  keyword-state keyword m = isState-iff keyword .1 (inr (record { keyword = keyword; listed = m; starts = record { rest = []; split = append-nil keyword } }))
+  keyword-state keyword m = isState-iff keyword .1 (inr (record { keyword = keyword; listed = m; starts = prefix-self keyword }))
 
   -- A keyword fills the bytes that end at a place exactly when it is a suffix of the state there.
   pub keyword-ends : (keyword letter : List ℕ) (place : ℕ) → List·Memᴰ keyword (keywords (book .phrases)) → place ≤ length letter
       → Fills keyword letter place ↔ Suffix keyword (after (isState book) (take place letter))
   keyword-ends keyword letter place m l = (
-    λ f. after-longest (isState book) (take place letter) keyword (record { before = f .before; split = f .split }) (keyword-state keyword m),
+    λ f. let r : Suffix keyword (take place letter) = record { before = f .before; split = f .split } in
+        after-longest (isState book) (take place letter) keyword r (keyword-state keyword m),
     λ s. let r : Suffix keyword (take place letter) = suffix-trans s (after-suffix (isState book) (take place letter)) in
         record { before = r .before; split = r .split; inside = l },
   )

@@ -3,7 +3,7 @@
 use mathlib.Core.Path.{_≡_, refl, sym, ap, _∙_}
 use mathlib.Core.Logic.{_↔_, _⊎_, inl, inr, ⊎-elim}
 use mathlib.Core.List.{List, [], _∷_, _++_, append-assoc, List·Memᴰ, List·Memᴰ·head, List·Memᴰ·tail, List·Memᴰ·not-nil, List·Memᴰ·cases-cons}
-use Prim.Native.Nat.{ℕ, _≤_, _<_}
+use Prim.Native.Nat.{ℕ, _+_, _≤_, _<_}
 use native.Mathlib.Omega.{arith}
 use lib.ListN.{length, length-append}
 use lib.Seq.{drop-append-seam}
@@ -14,7 +14,10 @@ pub suffix-self : (u : List ℕ) → Suffix u u
 suffix-self u = record { before = []; split = refl }
 
 pub suffix-trans : {s u v : List ℕ} → Suffix s u → Suffix u v → Suffix s v
-suffix-trans {s} {u} {v} h k = record { before = k .before ++ h .before; split = append-assoc (k .before) (h .before) s ∙ rw (h .split) (k .split) }
+suffix-trans {s} {u} {v} h k = record {
+  before = k .before ++ h .before;
+  split = append-assoc (k .before) (h .before) s ∙ rw (h .split) (k .split);
+}
 
 pub suffix-length : {s u : List ℕ} → Suffix s u → length s ≤ length u
 suffix-length {s} {u} h = omega (arith, length-append (h .before) s, ap length (h .split))
@@ -43,7 +46,9 @@ suffix-nil {s} h = go s (suffix-length h)
 -- Two suffixes of the same bytes that are equally long are one.
 pub suffix-one : {s r u : List ℕ} → Suffix s u → Suffix r u → length s ≡ length r → s ≡ r
 suffix-one {s} {r} {u} h k e =
-    let n : length (h .before) ≡ length (k .before) = omega (arith, length-append (h .before) s, ap length (h .split), length-append (k .before) r, ap length (k .split)) in
+    let p : length (h .before) + length s ≡ length u = sym (length-append (h .before) s) ∙ ap length (h .split) in
+    let q : length (k .before) + length r ≡ length u = sym (length-append (k .before) r) ∙ ap length (k .split) in
+    let n : length (h .before) ≡ length (k .before) = omega arith in
     sym (drop-append-seam (h .before) s) ∙ rw (h .split, n, ← (k .split)) (drop-append-seam (k .before) r)
 
 -- ── The list of the suffixes ──

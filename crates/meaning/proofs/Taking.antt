@@ -38,7 +38,8 @@ module _ (book : Book) where
   unfolding freeRoom
   freeRoom-nil x room = omega arith
 
-  freeRoom-cons : (x : List ℕ) (a : ℕ) (y : List ℕ) (room : ℕ) → freeRoom book x (a ∷ y) room ≡ freeRoom book (x ++ a ∷ []) y (room - length (atByte x a))
+  freeRoom-cons : (x : List ℕ) (a : ℕ) (y : List ℕ) (room : ℕ)
+      → freeRoom book x (a ∷ y) room ≡ freeRoom book (x ++ a ∷ []) y (room - length (atByte x a))
   unfolding freeRoom
   freeRoom-cons x a y room = omega (arith, length-append (atByte x a) (reportsAfter book (x ++ a ∷ []) y))
 
@@ -50,7 +51,8 @@ module _ (book : Book) where
       left : ℕ
       left = room - length (atByte x a)
 
-      go : (v : Bool) → leb (length (book .phrases)) room ≡ v → (n : ℕ) → Takes book (x ++ a ∷ []) y left n → Takes book x (a ∷ y) room (cond v (suc n) 0)
+      go : (v : Bool) → leb (length (book .phrases)) room ≡ v → (n : ℕ) → Takes book (x ++ a ∷ []) y left n
+          → Takes book x (a ∷ y) room (cond v (suc n) 0)
       go true e n r = record {
         offered = omega (arith, r .offered);
         enough = each;
@@ -85,7 +87,8 @@ module _ (book : Book) where
   pub takes-fits : (x part : List ℕ) (room : ℕ) → length (reportsAfter book x (take (takes book x part room) part)) ≤ room
   unfolding takes reportsAfter
   takes-fits x [] room = omega arith
-  takes-fits x (a ∷ y) room = go (leb (length (book .phrases)) room) refl (takes book (x ++ a ∷ []) y left) (takes-fits (x ++ a ∷ []) y left)
+  takes-fits x (a ∷ y) room =
+      go (leb (length (book .phrases)) room) refl (takes book (x ++ a ∷ []) y left) (takes-fits (x ++ a ∷ []) y left)
     where
       left : ℕ
       left = room - length (atByte x a)

@@ -101,27 +101,32 @@ someUpTo-iff test (suc n) = (
 )
 
 module _ (width : List ℕ → ℕ) (letter : List ℕ) where
-  pub follows-iff : (piece : Piece) (previous place : ℕ) → So (follows width letter piece previous place) ↔ Follows width letter piece previous place
+  pub follows-iff : (piece : Piece) (previous place : ℕ)
+      → So (follows width letter piece previous place) ↔ Follows width letter piece previous place
   unfolding follows
   follows-iff piece previous place = (
-    λ h. let l : previous + length (piece .keyword) ≤ place = leb-true _ _ (search (and-left, and-right)) in
+    λ h. let l : previous + size ≤ place = leb-true _ _ (search (and-left, and-right)) in
         record {
           filled = fills-iff (piece .keyword) letter place .0 (search (and-left));
-          between = place - length (piece .keyword) - previous;
+          between = place - size - previous;
           spans = omega arith;
-          admitted = admits-iff (piece .gap) (width (bytesAfter previous (place - length (piece .keyword) - previous) letter)) .0 (search (and-right));
+          admitted = admits-iff (piece .gap) (width (bytesAfter previous (place - size - previous) letter)) .0 (search (and-right));
         },
-    λ f. let k : place - length (piece .keyword) - previous ≡ f .between = omega arith in
+    λ f. let k : place - size - previous ≡ f .between = omega arith in
         both _ _ (fills-iff (piece .keyword) letter place .1 (f .filled))
-        (both _ _ (le-leb (previous + length (piece .keyword)) place (omega arith))
+        (both _ _ (le-leb (previous + size) place (omega arith))
         (rw k (admits-iff (piece .gap) (width (bytesAfter previous (f .between) letter)) .1 (f .admitted)))),
   )
+    where
+      size : ℕ
+      size = length (piece .keyword)
 
-  pub ends-iff : (pieces : List Piece) (previous place : ℕ) → So (ends width letter previous pieces place) ↔ Ends width letter previous pieces place
+  pub ends-iff : (pieces : List Piece) (previous place : ℕ)
+      → So (ends width letter previous pieces place) ↔ Ends width letter previous pieces place
   unfolding ends Ends
   ends-iff [] previous place = (eqb-true previous place, eq-eqb previous place)
   ends-iff (piece ∷ rest) previous place = (
-    λ h. let r : (next : ℕ) × (next ≤ length letter) × So (follows width letter piece previous next && ends width letter next rest place) = someUpTo-iff _ (length letter) .0 h in
+    λ h. let r = someUpTo-iff (λ next. follows width letter piece previous next && ends width letter next rest place) (length letter) .0 h in
         (r .0, follows-iff piece previous (r .0) .0 (search (and-left)), ends-iff rest (r .0) place .0 (search (and-right))),
     λ m. someUpTo-iff _ (length letter) .1 (
       m .0,
@@ -130,6 +135,7 @@ module _ (width : List ℕ → ℕ) (letter : List ℕ) where
     ),
   )
 
-pub matches-iff : (book : Book) (phrase : Phrase) (letter : List ℕ) (place : ℕ) → So (matches book phrase letter place) ↔ Matches book phrase letter place
+pub matches-iff : (book : Book) (phrase : Phrase) (letter : List ℕ) (place : ℕ)
+    → So (matches book phrase letter place) ↔ Matches book phrase letter place
 unfolding matches Matches
 matches-iff book phrase letter place = ends-iff (widthIn book) letter (phrase .pieces) 0 place

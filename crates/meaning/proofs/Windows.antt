@@ -2,7 +2,7 @@
 -- Assumes nothing.
 use mathlib.Core.Path.{_≡_, refl, ap, _∙_}
 use mathlib.Core.Logic.{_↔_}
-use mathlib.Core.Bool.{So, _&&_}
+use mathlib.Core.Bool.{Bool, So, _&&_}
 use mathlib.Core.List.{List, [], _∷_, _++_}
 use Prim.Native.Nat.{ℕ, _+_, _-_, _≤_}
 use native.Mathlib.Omega.{arith}
@@ -29,7 +29,8 @@ notPast-iff (bounded least most) began here = (leb-true here (began + most), le-
 notPast-iff (openFrom least) began here = (λ h. tt, λ h. refl)
 
 -- A gap admits what lies between two measures exactly when its window from the first has opened and is not past at the second.
-gap-window : (gap : Gap) (began between here : ℕ) → began + between ≡ here → Admits gap between ↔ ((began + leastOf gap ≤ here) × NotPast gap began here)
+gap-window : (gap : Gap) (began between here : ℕ) → began + between ≡ here
+    → Admits gap between ↔ ((began + leastOf gap ≤ here) × NotPast gap began here)
 unfolding leastOf NotPast Admits
 gap-window (bounded least most) began between here h = (λ a. omega arith, λ a. omega arith)
 gap-window (openFrom least) began between here h = (λ a. omega arith, λ a. omega arith)
@@ -44,7 +45,8 @@ module _ (width : List ℕ → ℕ) (letter : List ℕ) where
   -- ── The last of some pieces ──
 
   pub ends-snoc : (pieces : List Piece) (piece : Piece) (previous place : ℕ)
-      → Ends width letter previous (pieces ++ piece ∷ []) place ↔ ((end : ℕ) × Ends width letter previous pieces end × Follows width letter piece end place)
+      → Ends width letter previous (pieces ++ piece ∷ []) place
+      ↔ ((end : ℕ) × Ends width letter previous pieces end × Follows width letter piece end place)
   unfolding Ends
   ends-snoc [] piece previous place = (
     λ h. (previous, refl, rw (h .2) at (h .1)),
@@ -55,7 +57,8 @@ module _ (width : List ℕ → ℕ) (letter : List ℕ) where
     λ h. (h .1 .0, h .1 .1, ends-snoc pieces piece (h .1 .0) place .1 (h .0, h .1 .2, h .2)),
   )
 
-  pub openAt-iff : (pieces : List Piece) (piece : Piece) (place : ℕ) → So (openAt width letter pieces piece place) ↔ OpenAt width letter pieces piece place
+  pub openAt-iff : (pieces : List Piece) (piece : Piece) (place : ℕ)
+      → So (openAt width letter pieces piece place) ↔ OpenAt width letter pieces piece place
   unfolding openAt OpenAt
   openAt-iff pieces piece place = holds-iff _ _
       (λ previous. notPast-iff (piece .gap) (measured width letter previous) (measured width letter (place - length (piece .keyword))))
@@ -64,7 +67,9 @@ module _ (width : List ℕ → ℕ) (letter : List ℕ) where
   -- A window opens only after it began.
   opened-after : (piece : Piece) (place previous : ℕ) → So (opened width letter piece place previous) → previous ≤ place
   unfolding opened
-  opened-after piece place previous h = let l : previous + length (piece .keyword) ≤ place = leb-true _ _ (search (and-left)) in omega arith
+  opened-after piece place previous h =
+      let l : previous + length (piece .keyword) ≤ place = leb-true _ _ (search (and-left)) in
+      omega arith
 
   module _ (adds : (x y : List ℕ) → width (x ++ y) ≡ width x + width y) where
     measured-between : (c n : ℕ) → measured width letter c + width (bytesAfter c n letter) ≡ measured width letter (c + n)
@@ -76,24 +81,37 @@ module _ (width : List ℕ → ℕ) (letter : List ℕ) where
 
     -- A piece ends at a place after a previous end exactly when its keyword fills the bytes that end there and the window
     -- from that end has opened and is not past.
-    pub follows-window : (piece : Piece) (previous place : ℕ) → Follows width letter piece previous place
-        ↔ (Fills (piece .keyword) letter place × So (opened width letter piece place previous)
+    pub follows-window : (piece : Piece) (previous place : ℕ)
+        → Follows width letter piece previous place
+        ↔ (Fills (piece .keyword) letter place
+        × So (opened width letter piece place previous)
         × NotPast (piece .gap) (measured width letter previous) (measured width letter (place - length (piece .keyword))))
     unfolding opened
     follows-window piece previous place = (
-      λ f. let s : previous + f .between ≡ place - length (piece .keyword) = omega arith in
-          let r = gap-window (piece .gap) (measured width letter previous) (width (bytesAfter previous (f .between) letter)) (measured width letter (previous + f .between)) (measured-between previous (f .between)) .0 (f .admitted) in
-          (f .filled, both _ _ (le-leb (previous + length (piece .keyword)) place (omega arith)) (le-leb _ _ (rw s at (r .0))), rw s at (r .1)),
-      λ h. let l : previous + length (piece .keyword) ≤ place = leb-true _ _ (search (and-left)) in
-          let k : measured width letter previous + leastOf (piece .gap) ≤ measured width letter (place - length (piece .keyword)) = leb-true _ _ (search (and-right)) in
-          let s : previous + (place - length (piece .keyword) - previous) ≡ place - length (piece .keyword) = omega arith in
+      λ f. let r = window (f .between) (omega arith) .0 (f .admitted) in
+          (f .filled, both _ _ (le-leb (previous + size) place (omega arith)) (le-leb (began + leastOf (piece .gap)) here (r .0)), r .1),
+      λ h. let l : previous + size ≤ place = leb-true _ _ (search (and-left)) in
           record {
             filled = h .0;
-            between = place - length (piece .keyword) - previous;
+            between = place - size - previous;
             spans = omega arith;
-            admitted = gap-window (piece .gap) (measured width letter previous) _ (measured width letter (place - length (piece .keyword))) (measured-between previous _ ∙ ap (measured width letter) s) .1 (k, h .2);
+            admitted = window (place - size - previous) (omega arith) .1 (leb-true _ _ (search (and-right)), h .2);
           },
     )
+      where
+        size : ℕ
+        size = length (piece .keyword)
+
+        began : ℕ
+        began = measured width letter previous
+
+        here : ℕ
+        here = measured width letter (place - size)
+
+        window : (n : ℕ) → previous + n ≡ place - size
+            → Admits (piece .gap) (width (bytesAfter previous n letter))
+            ↔ ((began + leastOf (piece .gap) ≤ here) × NotPast (piece .gap) began here)
+        window n e = gap-window (piece .gap) began _ here (measured-between previous n ∙ ap (measured width letter) e)
 
     -- Pieces end at a place, from the letter's start, exactly when the last one's keyword fills the bytes that end there and its
     -- newest window that has opened is not past.
@@ -103,7 +121,8 @@ module _ (width : List ℕ → ℕ) (letter : List ℕ) where
     window-iff pieces piece place = (
       λ m. let r = ends-snoc pieces piece 0 place .0 m in
           let k = follows-window piece (r .0) place .0 (r .2) in
-          (k .0, enough .0 (r .0, opened-after piece place (r .0) (k .1), both _ _ (ends-iff width letter pieces 0 (r .0) .1 (r .1)) (k .1), k .2)),
+          let both-hold : So (begins (r .0)) = both _ _ (ends-iff width letter pieces 0 (r .0) .1 (r .1)) (k .1) in
+          (k .0, enough .0 (r .0, opened-after piece place (r .0) (k .1), both-hold, k .2)),
       λ m. let r = enough .1 (m .1) in
           ends-snoc pieces piece 0 place .1 (
             r .0,
@@ -112,10 +131,13 @@ module _ (width : List ℕ → ℕ) (letter : List ℕ) where
           ),
     )
       where
+        begins : ℕ → Bool
+        begins c = ends width letter 0 pieces c && opened width letter piece place c
+
         here : ℕ
         here = measured width letter (place - length (piece .keyword))
 
-        enough : ((c : ℕ) × (c ≤ place) × So (ends width letter 0 pieces c && opened width letter piece place c) × NotPast (piece .gap) (measured width letter c) here)
+        enough : ((c : ℕ) × (c ≤ place) × So (begins c) × NotPast (piece .gap) (measured width letter c) here)
             ↔ Holds (λ c. NotPast (piece .gap) (measured width letter c) here) (newest width letter pieces piece place)
-        enough = latest-enough (λ c. ends width letter 0 pieces c && opened width letter piece place c) (λ c. NotPast (piece .gap) (measured width letter c) here)
+        enough = latest-enough begins (λ c. NotPast (piece .gap) (measured width letter c) here)
             (λ c d l. notPast-later (piece .gap) (measured width letter c) (measured width letter d) here (measured-later c d l)) place
