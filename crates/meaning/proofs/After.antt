@@ -7,7 +7,7 @@ use mathlib.Core.List.{List, [], _∷_, _++_, append-nil}
 use Prim.Native.Nat.{ℕ, _≤_}
 use native.Mathlib.Omega.{arith}
 use lib.ListN.{length}
-use Rattle.meaning.specs.Automaton.{Suffix, PrefixClosed, After, after, failure}
+use Rattle.meaning.specs.Automaton.{Suffix, PrefixClosed, After, after}
 use Rattle.meaning.proofs.Truth.{untrue}
 use Rattle.meaning.proofs.Suffixes.{suffix-self, suffix-cons, suffix-nil, suffix-length, suffix-one}
 
@@ -87,17 +87,3 @@ module _ (state : List ℕ → Bool) where
             → after state (x ∷ (t ++ a ∷ [])) ≡ after state (cond v (x ∷ t) (after state t) ++ a ∷ [])
         go true e ih = refl
         go false e ih = after-tail x (t ++ a ∷ []) (no-longer (x ∷ t) a e) ∙ ih
-
-    -- The next state from u with the byte a: forward to ua where that is a state; the empty state where not even a is one;
-    -- else the next state from the failure of u.
-    pub next-forward : (u : List ℕ) (a : ℕ) → So (state (u ++ a ∷ [])) → after state (u ++ a ∷ []) ≡ u ++ a ∷ []
-    next-forward u a h = after-self (u ++ a ∷ []) h
-
-    pub next-root : (a : ℕ) → state (a ∷ []) ≡ false → after state (a ∷ []) ≡ []
-    unfolding after
-    next-root a h = rw h
-
-    pub next-failure : (x : ℕ) (u : List ℕ) (a : ℕ) → state (x ∷ u ++ a ∷ []) ≡ false
-        → after state (x ∷ u ++ a ∷ []) ≡ after state (failure state (x ∷ u) ++ a ∷ [])
-    unfolding failure
-    next-failure x u a h = after-tail x (u ++ a ∷ []) h ∙ after-step u a

@@ -1,15 +1,15 @@
 -- The failure of a state is the state after what follows its first byte, so the laws of `after` give those of failures.
 -- Assumes nothing.
-use mathlib.Core.Path.{_≡_, ap}
+use mathlib.Core.Path.{_≡_, ap, _∙_}
 use mathlib.Core.Logic.{_↔_, _⊎_, inl, inr, ⊎-elim}
-use mathlib.Core.Bool.{Bool, So}
+use mathlib.Core.Bool.{Bool, false, So}
 use mathlib.Core.List.{List, [], _∷_, _++_}
 use Prim.Native.Nat.{ℕ, suc, _<_}
 use native.Mathlib.Omega.{arith}
 use lib.ListN.{length}
 use Rattle.meaning.specs.Automaton.{Suffix, PrefixClosed, After, FailsTo, after, failure}
 use Rattle.meaning.proofs.Suffixes.{suffix-cons, suffix-length, suffix-trans}
-use Rattle.meaning.proofs.After.{after-is, after-only, after-suffix, after-longest, after-step}
+use Rattle.meaning.proofs.After.{after-self, after-tail, after-is, after-only, after-suffix, after-longest, after-step}
 
 -- A suffix of some bytes that is shorter than they is a suffix of what follows the first byte.
 proper : (s : List ℕ) (x : ℕ) (u : List ℕ) → Suffix s (x ∷ u) → length s < suc (length u) → Suffix s u
@@ -49,8 +49,24 @@ module _ (state : List ℕ → Bool) where
     λ k. suffix-cons s x u .1 (⊎-elim inl (λ r. inr (suffix-trans r (after-suffix state u))) k),
   )
 
-  -- The failure of a child is the next state from its parent's failure.
-  pub failure-child : PrefixClosed state → (x : ℕ) (u : List ℕ) (a : ℕ)
-      → failure state (x ∷ u ++ a ∷ []) ≡ after state (failure state (x ∷ u) ++ a ∷ [])
-  unfolding failure
-  failure-child closed x u a = after-step state closed u a
+  -- ── One byte more ──
+
+  module _ (closed : PrefixClosed state) where
+    -- The next state from u with the byte a: forward to ua where that is a state; the empty state where not even a is one;
+    -- else the next state from the failure of u.
+    pub next-forward : (u : List ℕ) (a : ℕ) → So (state (u ++ a ∷ [])) → after state (u ++ a ∷ []) ≡ u ++ a ∷ []
+    next-forward u a h = after-self state (u ++ a ∷ []) h
+
+    pub next-root : (a : ℕ) → state (a ∷ []) ≡ false → after state (a ∷ []) ≡ []
+    unfolding after
+    next-root a h = rw h
+
+    pub next-failure : (x : ℕ) (u : List ℕ) (a : ℕ) → state (x ∷ u ++ a ∷ []) ≡ false
+        → after state (x ∷ u ++ a ∷ []) ≡ after state (failure state (x ∷ u) ++ a ∷ [])
+    unfolding failure
+    next-failure x u a h = after-tail state x (u ++ a ∷ []) h ∙ after-step state closed u a
+
+    -- The failure of a child is the next state from its parent's failure.
+    pub failure-child : (x : ℕ) (u : List ℕ) (a : ℕ) → failure state (x ∷ u ++ a ∷ []) ≡ after state (failure state (x ∷ u) ++ a ∷ [])
+    unfolding failure
+    failure-child x u a = after-step state closed u a
