@@ -79,7 +79,7 @@ module _ (x y : List ℕ) where
   pub matches-kept : (book : Book) (phrase : Phrase) (place : ℕ) → place ≤ length x
       → matches book phrase (x ++ y) place ≡ matches book phrase x place
   unfolding matches
-  matches-kept book phrase place l = ends-kept (widthIn book) (phrase .pieces) 0 place l
+  matches-kept book phrase place l = ends-kept (widthIn book) (phrase .pieces) _ place l
 
   pub reportsAt-kept : (book : Book) (place : ℕ) → place ≤ length x → reportsAt book (x ++ y) place ≡ reportsAt book x place
   unfolding reportsAt

@@ -20,7 +20,7 @@ use Rattle.meaning.proofs.Tests.{suffix-iff, ends-iff}
 use Rattle.meaning.proofs.States.{keyword-ends}
 use Rattle.meaning.proofs.Latest.{latest-same, holds-iff}
 use Rattle.meaning.proofs.Windows.{width-adds, notPast-iff, openAt-iff, window-iff}
-use Rattle.meaning.proofs.InBytes.{newest-new, newest-old, window-bytes}
+use Rattle.meaning.proofs.WindowsInBytes.{newest-new, newest-old, window-bytes}
 use Rattle.meaning.proofs.Cuts.{ends-kept}
 
 -- ── Whether a piece ends with the letter ──

@@ -7,7 +7,7 @@ use mathlib.Core.List.{List, [], _∷_, _++_}
 use Prim.Native.Nat.{ℕ, zero, suc, _+_, _-_, _≤_}
 use native.Mathlib.Omega.{arith}
 use native.Mathlib.Nat.{le-suc-iff}
-use lib.Dec.{leb, eqb}
+use lib.Dec.{eqb}
 use lib.ListN.{length, take}
 use borrow.Author.Tests.{leb-true, le-leb, eqb-true, eq-eqb}
 use Rattle.meaning.specs.Books.{Gap, bounded, openFrom, Piece, Phrase, Book, widthIn}
@@ -78,10 +78,10 @@ fills-iff keyword letter place = (
 pub admits-iff : (gap : Gap) (width : ℕ) → So (admits gap width) ↔ Admits gap width
 unfolding admits Admits
 admits-iff (bounded least most) width = (
-  λ h. (leb-true least width (search (and-left)), leb-true width most (search (and-right))),
-  λ a. both (leb least width) (leb width most) (le-leb least width (a .0)) (le-leb width most (a .1)),
+  λ h. (leb-true _ _ (search (and-left)), leb-true _ _ (search (and-right))),
+  λ a. both _ _ (le-leb _ _ (a .0)) (le-leb _ _ (a .1)),
 )
-admits-iff (openFrom least) width = (leb-true least width, le-leb least width)
+admits-iff (openFrom least) width = (leb-true _ _, le-leb _ _)
 
 pub someUpTo-iff : (test : ℕ → Bool) (n : ℕ) → So (someUpTo test n) ↔ ((k : ℕ) × (k ≤ n) × So (test k))
 unfolding someUpTo
@@ -138,4 +138,4 @@ module _ (width : List ℕ → ℕ) (letter : List ℕ) where
 pub matches-iff : (book : Book) (phrase : Phrase) (letter : List ℕ) (place : ℕ)
     → So (matches book phrase letter place) ↔ Matches book phrase letter place
 unfolding matches Matches
-matches-iff book phrase letter place = ends-iff (widthIn book) letter (phrase .pieces) 0 place
+matches-iff book phrase letter place = ends-iff (widthIn book) letter (phrase .pieces) _ place

@@ -25,7 +25,7 @@ width-adds book x y = length-append x y
 
 pub notPast-iff : (gap : Gap) (began here : ℕ) → So (notPast gap began here) ↔ NotPast gap began here
 unfolding notPast NotPast
-notPast-iff (bounded least most) began here = (leb-true here (began + most), le-leb here (began + most))
+notPast-iff (bounded least most) began here = (leb-true _ _, le-leb _ _)
 notPast-iff (openFrom least) began here = (λ h. tt, λ h. refl)
 
 -- A gap admits what lies between two measures exactly when its window from the first has opened and is not past at the second.
