@@ -48,12 +48,14 @@ module _ (state : List ℕ → Bool) where
           (λ p. ih p k)
           (suffix-cons s x t .0 h)
 
+  -- Every state that is a suffix of the bytes is a suffix of the state after them.
   pub after-longest : (t s : List ℕ) → Suffix s t → So (state s) → Suffix s (after state t)
   after-longest t s h k = after-found t s h k .1
 
   pub after-state : So (state []) → (t : List ℕ) → So (state (after state t))
   after-state empty t = after-found t [] (record { before = t; split = append-nil t }) empty .0
 
+  -- The search finds the longest suffix that is a state, and no other bytes are that.
   pub after-is : So (state []) → (t : List ℕ) → After state t (after state t)
   after-is empty t = record {
     ends = after-suffix t;
@@ -74,6 +76,7 @@ module _ (state : List ℕ → Bool) where
     pub one-shorter : (u : List ℕ) (a : ℕ) → So (state (u ++ a ∷ [])) → So (state u)
     one-shorter u a h = closed .shorter u (u ++ a ∷ []) (record { rest = a ∷ []; split = refl }) h
 
+    -- What is no state goes on to none.
     pub no-longer : (u : List ℕ) (a : ℕ) → state u ≡ false → state (u ++ a ∷ []) ≡ false
     no-longer u a e = untrue _ (λ h. false≢true (sym e ∙ one-shorter u a h))
 

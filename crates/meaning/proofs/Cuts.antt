@@ -99,6 +99,7 @@ module _ (x y : List ℕ) where
 -- ── One byte more ──
 
 module _ (book : Book) where
+  -- A byte more adds the reports of the place at which it ends, and the steps from the state before it.
   pub reports-snoc : (x : List ℕ) (a : ℕ) → reports book (x ++ a ∷ []) ≡ reports book x ++ reportsAt book (x ++ a ∷ []) (suc (length x))
   unfolding reports reportsUpTo
   reports-snoc x a = rw (length-append x (a ∷ []), add-one, reportsUpTo-kept x (a ∷ []) book (length x) (omega arith))
@@ -115,6 +116,7 @@ module _ (book : Book) where
 
   -- ── A letter cut in two ──
 
+  -- Reports and steps of the whole are those of the first part, and then those of the second, read after the first.
   pub reports-cut : (x y : List ℕ) → reports book (x ++ y) ≡ reports book x ++ reportsAfter book x y
   unfolding reportsAfter
   reports-cut x [] = simp append-nil

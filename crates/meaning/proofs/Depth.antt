@@ -32,6 +32,7 @@ last-byte (x ∷ u) = inr (⊎-elim
 
 -- ── The depth ──
 
+-- What a test counts, one or nothing.
 one-at-most : (v : Bool) → cond {A = ℕ} v 1 0 ≤ 1
 one-at-most true = omega arith
 one-at-most false = omega arith
@@ -41,6 +42,7 @@ one-where true w h = rw (h refl) (omega arith)
 one-where false w h = omega arith
 
 module _ (state : List ℕ → Bool) where
+  -- The depth of some bytes counts them, if they are a state, and then what follows their first byte.
   pub depth-nil : depth state [] ≡ 0
   unfolding depth
   depth-nil = rw and-false
@@ -49,6 +51,7 @@ module _ (state : List ℕ → Bool) where
   unfolding depth
   depth-cons x u = rw and-true
 
+  -- Bytes are as deep as the state after them.
   pub depth-after : (u : List ℕ) → depth state (after state u) ≡ depth state u
   unfolding after
   depth-after [] = refl
@@ -93,6 +96,7 @@ module _ (state : List ℕ → Bool) where
         rw (depth-cons x (u ++ a ∷ []), depth-cons x u)
         (omega (arith, depth-snoc u a, one-where (state (x ∷ u ++ a ∷ [])) (state (x ∷ u)) (one-shorter state closed (x ∷ u) a)))
 
+    -- So without the last byte it falls by at most one.
     pub depth-parent : (u : List ℕ) → depth state u ≤ depth state (parent u) + 1
     depth-parent u = ⊎-elim
         (λ (e : u ≡ []). rw (e, depth-nil) (omega arith))

@@ -16,10 +16,12 @@ proper : (s : List ℕ) (x : ℕ) (u : List ℕ) → Suffix s (x ∷ u) → leng
 proper s x u h l = ⊎-elim (λ (e : s ≡ x ∷ u). absurd (omega (arith, ap length e))) (λ k. k) (suffix-cons s x u .0 h)
 
 module _ (state : List ℕ → Bool) where
+  -- A failure is shorter than its state, so that following failures ends.
   pub failure-shorter : (x : ℕ) (u : List ℕ) → length (failure state (x ∷ u)) < length (x ∷ u)
   unfolding failure
   failure-shorter x u = omega (arith, suffix-length (after-suffix state u))
 
+  -- It is the longest proper suffix that is a state, and no other bytes are that.
   pub failure-is : So (state []) → (x : ℕ) (u : List ℕ) → FailsTo state (x ∷ u) (failure state (x ∷ u))
   unfolding failure
   failure-is empty x u =

@@ -9,6 +9,7 @@ use native.Mathlib.Nat.{le-suc-iff}
 use native.Mathlib.Omega.{arith}
 use Rattle.meaning.specs.Windows.{latest, Latest, Holds, holds}
 
+-- The search finds the latest number up to n, if there is one.
 pub latest-is : (test : ℕ → Bool) (n : ℕ) → Latest test n (latest test n)
 unfolding latest Latest
 latest-is test zero = go (test zero) refl
@@ -53,6 +54,7 @@ latest-enough test P later n = go (latest test n) (latest-is test n)
     go none h = (λ r. h (r .0) (r .1) (r .2), λ r. absurd r)
     go (some d) h = (λ r. later (r .0) d (h .2 (r .0) (r .1) (r .2)) (r .3), λ r. (d, h .1, h .0, r))
 
+-- Where a test says what a property says, so it does of a number that may be there.
 pub holds-iff : (test : ℕ → Bool) (P : ℕ → Type 0) → ((c : ℕ) → So (test c) ↔ P c) → (o : Option ℕ) → So (holds test o) ↔ Holds P o
 unfolding holds Holds
 holds-iff test P same none = (λ h. absurd (false≢true h), λ h. absurd h)

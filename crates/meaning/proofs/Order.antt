@@ -13,6 +13,7 @@ use Rattle.meaning.specs.Reports.{Report, reportOf, Due, choose, reports
 use Rattle.meaning.proofs.Reports.{choose-iff, reportsAt-iff, reportsUpTo-iff, reports-iff}
 use Rattle.meaning.proofs.Sorted.{sorted-append, sorted-once, sorted-only}
 
+-- No two reports come before each other.
 pub before-not-after : (r s : Report) → Before r s → Before s r → ⊥
 unfolding Before
 before-not-after r s p q = ⊎-elim

@@ -13,6 +13,7 @@ use Rattle.meaning.specs.Matching.{Ends, Matches, matches}
 use Rattle.meaning.specs.Reports.{Report, reportOf, Due, choose, reportsAt, reportsUpTo, reports}
 use Rattle.meaning.proofs.Tests.{matches-iff}
 
+-- What is chosen is what is listed and has the test hold of it.
 pub choose-iff : {A : Type 0} (test : A → Bool) (l : List A) (x : A) → List·Memᴰ x (choose test l) ↔ (List·Memᴰ x l × So (test x))
 unfolding choose
 choose-iff test [] x = (λ m. absurd (List·Memᴰ·not-nil m), λ r. absurd (List·Memᴰ·not-nil (r .0)))
@@ -43,6 +44,7 @@ ends-inside width letter [] previous place l h = rw h at l
 ends-inside width letter (piece ∷ rest) previous place l h = ends-inside width letter rest (h .0) place (h .1 .filled .inside) (h .2)
 
 module _ (book : Book) (letter : List ℕ) where
+  -- A place has the reports of the phrases of the book that match there.
   pub reportsAt-iff : (place : ℕ) (report : Report) → List·Memᴰ report (reportsAt book letter place)
       ↔ ((phrase : Phrase) × List·Memᴰ phrase (book .phrases) × Matches book phrase letter place × (report ≡ reportOf phrase place))
   unfolding reportsAt
@@ -54,6 +56,7 @@ module _ (book : Book) (letter : List ℕ) where
         (choose-iff (λ p. matches book p letter place) (book .phrases) (r .0) .1 (r .1, matches-iff book (r .0) letter place .1 (r .2)))),
   )
 
+  -- The first n places have the reports of each.
   pub reportsUpTo-iff : (n : ℕ) (report : Report) → List·Memᴰ report (reportsUpTo book letter n)
       ↔ ((place : ℕ) × (0 < place) × (place ≤ n) × List·Memᴰ report (reportsAt book letter place))
   unfolding reportsUpTo
@@ -69,6 +72,7 @@ module _ (book : Book) (letter : List ℕ) where
         (le-suc-iff .0 (r .2)),
   )
 
+  -- The letter has the reports that are due.
   pub reports-iff : (report : Report) → List·Memᴰ report (reports book letter) ↔ Due book letter report
   unfolding reports Matches
   reports-iff report = (

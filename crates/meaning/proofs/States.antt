@@ -38,6 +38,7 @@ pub prefix-self : (u : List ℕ) → Prefix u u
 prefix-self u = record { rest = []; split = append-nil u }
 
 module _ (book : Book) where
+  -- The test of a state says what a state is.
   pub isState-iff : (u : List ℕ) → So (isState book u) ↔ IsState book u
   unfolding isState IsState
   isState-iff [] = (λ h. inl refl, λ s. refl)
@@ -64,6 +65,7 @@ module _ (book : Book) where
           (λ q. inr (record { keyword = q .keyword; listed = q .listed; starts = prefix-trans p (q .starts) }))
           s
 
+  -- A keyword is a state.
   pub keyword-state : (keyword : List ℕ) → List·Memᴰ keyword (keywords (book .phrases)) → So (isState book keyword)
   unfolding IsState
   keyword-state keyword m = isState-iff keyword .1 (inr (record { keyword = keyword; listed = m; starts = prefix-self keyword }))

@@ -53,6 +53,7 @@ suffix-one {s} {r} {u} h k e =
 
 -- ── The list of the suffixes ──
 
+-- It has the suffixes and nothing else.
 pub suffixes-iff : (u s : List ℕ) → List·Memᴰ s (suffixes u) ↔ Suffix s u
 unfolding suffixes
 suffixes-iff [] s = (

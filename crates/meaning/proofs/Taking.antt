@@ -43,6 +43,7 @@ module _ (book : Book) where
   unfolding freeRoom
   freeRoom-cons x a y room = omega (arith, length-append (atByte x a) (reportsAfter book (x ++ a ∷ []) y))
 
+  -- The count follows the rule: each byte taken finds enough free room, and it stops where none remains or the room is too small.
   pub takes-is : (x part : List ℕ) (room : ℕ) → Takes book x part room (takes book x part room)
   unfolding takes
   takes-is x [] room = record { offered = omega arith; enough = λ k l. absurd (omega arith); stops = inl refl }

@@ -44,6 +44,7 @@ notPast-later (openFrom least) c d here h k = tt
 module _ (width : List ℕ → ℕ) (letter : List ℕ) where
   -- ── The last of some pieces ──
 
+  -- Pieces and one more end at a place exactly when the pieces end somewhere and the one more follows.
   pub ends-snoc : (pieces : List Piece) (piece : Piece) (previous place : ℕ)
       → Ends width letter previous (pieces ++ piece ∷ []) place
       ↔ ((end : ℕ) × Ends width letter previous pieces end × Follows width letter piece end place)
@@ -57,6 +58,7 @@ module _ (width : List ℕ → ℕ) (letter : List ℕ) where
     λ h. (h .1 .0, h .1 .1, ends-snoc pieces piece (h .1 .0) place .1 (h .0, h .1 .2, h .2)),
   )
 
+  -- The test of an open window says what an open window is.
   pub openAt-iff : (pieces : List Piece) (piece : Piece) (place : ℕ)
       → So (openAt width letter pieces piece place) ↔ OpenAt width letter pieces piece place
   unfolding openAt OpenAt

@@ -1,11 +1,11 @@
 -- Rows A to M of document 01, as it lists them. Assumes nothing: these are definitions.
-use mathlib.Core.List.{List, [], _∷_, _++_, map}
+use mathlib.Core.List.{List, [], _∷_, _++_}
 use mathlib.Core.Option.{Option, none, some, Option·map}
 use Prim.Native.Nat.{ℕ, zero, suc}
-use Prim.Native.Char.{Char, code}
+use Prim.Native.Char.{code}
 use Prim.Native.String.{String}
 use lib.ListN.{length}
-use Rattle.meaning.specs.Books.{Gap, bounded, openFrom, Piece, Phrase, Book}
+use Rattle.meaning.specs.Books.{bounded, openFrom, Piece, Phrase, Book}
 use Rattle.meaning.specs.Reports.{Report, reports}
 use Rattle.meaning.specs.Automaton.{isState, stepsAt}
 
