@@ -16,7 +16,11 @@ use Rattle.meaning.proofs.Truth.{both, and-left, and-right}
 use Rattle.meaning.proofs.Tests.{ends-iff}
 use Rattle.meaning.proofs.Latest.{latest-enough, holds-iff}
 
--- Widths in bytes add up.
+-- Gaps are counted in bytes, and such widths add up.
+pub width-is-length : (book : Book) → widthIn book ≡ length
+unfolding widthIn
+width-is-length book = refl
+
 pub width-adds : (book : Book) (x y : List ℕ) → widthIn book (x ++ y) ≡ widthIn book x + widthIn book y
 unfolding widthIn
 width-adds book x y = length-append x y
