@@ -1,6 +1,7 @@
 -- What can be wrong with the record that begins at a stage: a test for each of document 01's reasons, without regard to the others.
 -- Assumes nothing: these are definitions.
-use mathlib.Core.Bool.{Bool, true, false, not, cond, _&&_, _||_}
+use mathlib.Core.Path.{_≡_}
+use mathlib.Core.Bool.{Bool, true, false, So, not, cond, _&&_, _||_}
 use mathlib.Core.List.{List, [], _∷_, _++_}
 use mathlib.Core.Option.{Option}
 use Prim.Native.Nat.{ℕ, _+_, _-_, _*_}
@@ -139,3 +140,14 @@ fault stage (k ∷ behind) why = recordFault stage k behind why
 unfoldable pub firstFault : Stage → List ℕ → Option Refusal
 unfolding fault inOrder first
 firstFault stage rest = first (fault stage rest) inOrder
+
+-- A record of kind k stands with its body: none of the tests finds a fault in it.
+pub record Stands (stage : Stage) (k : ℕ) (body : List ℕ) : Type 0 where
+  pub allows : So (allowed stage k)
+  pub whole : length body ≡ bodyLength k
+  pub inRange : outOfRange k body ≡ false
+  pub uncrossed : leastAboveMost k body ≡ false
+  pub above : notAbove stage k body ≡ false
+  pub fewEnough : oneTooMany stage k ≡ false
+  pub rightTotal : wrongTotal stage k body ≡ false
+  pub notFull : aboveFull stage k body ≡ false

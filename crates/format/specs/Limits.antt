@@ -36,6 +36,10 @@ mostPieces = 256
 abbrev pub mostPrefixes : ℕ
 mostPrefixes = 2047
 
+-- No accepted book is longer than so many bytes: that follows from the limits and is no limit of its own.
+abbrev pub longestBook : ℕ
+longestBook = 10245
+
 -- ── Within the limits ──
 
 -- A property holds of each element.

@@ -1,7 +1,8 @@
 -- The different nonempty prefixes of keywords. Assumes nothing: these are definitions.
-use mathlib.Core.Bool.{not}
+use mathlib.Core.Bool.{not, cond}
 use mathlib.Core.List.{List, [], _∷_, _++_, map}
-use Prim.Native.Nat.{ℕ}
+use Prim.Native.Nat.{ℕ, _+_, max}
+use lib.Dec.{eqb}
 use lib.ListN.{length}
 use Rattle.meaning.specs.Automaton.{prefix, some-of}
 use Rattle.meaning.specs.Reports.{choose}
@@ -20,3 +21,17 @@ differentPrefixes (w ∷ ws) = choose (λ u. not (some-of (prefix u) ws)) (nonem
 unfoldable pub prefixCount : List (List ℕ) → ℕ
 unfolding differentPrefixes
 prefixCount ws = length (differentPrefixes ws)
+
+-- ── What a further keyword brings ──
+
+-- How many bytes two keywords have in common from their start on: the length of their longest common prefix.
+unfoldable pub commonPrefix : List ℕ → List ℕ → ℕ
+commonPrefix [] ys = 0
+commonPrefix (x ∷ xs) [] = 0
+commonPrefix (x ∷ xs) (y ∷ ys) = let rest : ℕ = commonPrefix xs ys in cond (eqb x y) (1 + rest) 0
+
+-- The longest common prefix of a keyword with any of the earlier ones, 0 where there is none.
+unfoldable pub mostShared : List (List ℕ) → List ℕ → ℕ
+unfolding commonPrefix
+mostShared [] w = 0
+mostShared (v ∷ earlier) w = max (commonPrefix w v) (mostShared earlier w)

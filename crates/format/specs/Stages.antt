@@ -1,13 +1,11 @@
 -- How far a book has been read when a record begins: what stands before that record. Assumes nothing: these are definitions.
-use mathlib.Core.Bool.{Bool, true, false, _&&_, _||_}
 use mathlib.Core.Path.{_≡_}
 use mathlib.Core.List.{List, [], _∷_, _++_}
 use Prim.Native.Nat.{ℕ, _+_, _≤_}
-use lib.Dec.{leb, eqb}
 use lib.ListN.{length}
-use Rattle.meaning.specs.Books.{Gap, Piece, Phrase}
-use Rattle.format.specs.Limits.{All, GapWithin, PhraseSoFar, PhraseWithin, CountsWithin, pieceCount, mostPiecesOfPhrase, mostPieces}
-use Rattle.format.specs.Written.{headerKind, phraseKind, boundedKind, openKind, endKind, writtenHeader, writtenPhrases, writtenName, writtenPieces, writtenGap, written}
+use Rattle.meaning.specs.Books.{Gap, Piece, Phrase, Book}
+use Rattle.format.specs.Limits.{All, GapWithin, PhraseSoFar, PhraseWithin, CountsWithin, Within, pieceCount, mostPiecesOfPhrase, mostPieces}
+use Rattle.format.specs.Written.{writtenHeader, writtenPhrases, writtenName, writtenPieces, writtenGap, written}
 
 pub data Stage : Type 0 where
   -- nothing
@@ -61,3 +59,21 @@ SoFar (gapped phrases phrase gap) =
     × (length (phrase .pieces) + 1 ≤ mostPiecesOfPhrase) × (pieceCount (phrases ++ phrase ∷ []) + 1 ≤ mostPieces)
 SoFar (worded phrases phrase) = All PhraseWithin phrases × PhraseWithin phrase × CountsWithin (phrases ++ phrase ∷ [])
 SoFar (ended phrases) = All PhraseWithin phrases × CountsWithin phrases × (1 ≤ length phrases)
+
+-- ── Books that begin so ──
+
+-- What stands before the record begins the written form of a book within the limits.
+pub record Begins (stage : Stage) : Type 0 where
+  pub book : Book
+  pub within : Within book
+  pub rest : List ℕ
+  pub whole : written book ≡ writtenTo stage ++ rest
+
+-- A phrase has been named that can have no piece, because 256 stand before it. Its phrase record stands, and its gap is one too many.
+unfoldable pub NoPieceLeft : Stage → Type 0
+NoPieceLeft start = ⊥
+NoPieceLeft headed = ⊥
+NoPieceLeft (named phrases phrase) = pieceCount phrases ≡ mostPieces
+NoPieceLeft (gapped phrases phrase gap) = ⊥
+NoPieceLeft (worded phrases phrase) = ⊥
+NoPieceLeft (ended phrases) = ⊥
