@@ -1,0 +1,13 @@
+pub mod Lists
+pub mod Order
+pub mod Listed
+pub mod ListedChildren
+pub mod ListedNumbers
+pub mod Keywords
+pub mod Count
+pub mod Walks
+pub mod States
+pub mod Children
+pub mod Steps
+pub mod Endings
+pub mod Limits
