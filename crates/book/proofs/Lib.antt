@@ -1,0 +1,14 @@
+pub mod Bytes
+pub mod Fields
+pub mod Standing
+pub mod Common
+pub mod Shared
+pub mod Tests
+pub mod OneTurn
+pub mod Walk
+pub mod Tallied
+pub mod TurnByTests
+pub mod Agree
+pub mod Turned
+pub mod Reading
+pub mod Once

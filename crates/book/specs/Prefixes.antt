@@ -1,0 +1,54 @@
+-- The keywords of the records before an offset, as they are found by reading those records again. Assumes nothing: these are definitions.
+use mathlib.Core.Bool.{cond}
+use mathlib.Core.List.{List, [], _∷_, _++_}
+use Prim.Native.Nat.{ℕ, zero, suc, _+_, _≤_}
+use lib.Dec.{ltb}
+use lib.ListN.{length, take, drop}
+use Rattle.book.specs.declared.records.Found.{Found}
+use Rattle.book.specs.declared.records.Found.the-variants.{Header, Phrase, Bounded, Open, Keyword, End, Refused}
+use Rattle.book.specs.declared.prefixes.Span.{Span}
+use Rattle.book.specs.Records.{readAt}
+
+-- So many bytes, from an offset on.
+abbrev pub bytesFrom : ℕ → ℕ → List ℕ → List ℕ
+bytesFrom start count bytes = take count (drop start bytes)
+
+abbrev pub noKeyword : ℕ → Span
+noKeyword next = record { start = 0; count = 0; next = next }
+
+-- The keyword of a record, or no bytes, and the offset behind it, which is the end where there is no record.
+abbrev pub spanOf : ℕ → Found → Span
+spanOf end (Header edition next) = noKeyword (next .at)
+spanOf end (Phrase number rights next) = noKeyword (next .at)
+spanOf end (Bounded least most next) = noKeyword (next .at)
+spanOf end (Open least next) = noKeyword (next .at)
+spanOf end (Keyword start length next) = record { start = start; count = length; next = next .at }
+spanOf end (End count next) = noKeyword (next .at)
+spanOf end (Refused why at) = noKeyword end
+
+-- The keyword of a record lies in the book.
+abbrev pub Inside : List ℕ → ℕ → Found → Type 0
+Inside bytes end found = spanOf end found .start + spanOf end found .count ≤ length bytes
+
+-- The keyword of a record, if it is one.
+unfoldable pub keywordIn : List ℕ → Found → List (List ℕ)
+keywordIn bytes (Header edition next) = []
+keywordIn bytes (Phrase number rights next) = []
+keywordIn bytes (Bounded least most next) = []
+keywordIn bytes (Open least next) = []
+keywordIn bytes (Keyword start length next) = bytesFrom start length bytes ∷ []
+keywordIn bytes (End count next) = []
+keywordIn bytes (Refused why at) = []
+
+-- The keywords of the records from an offset on, up to an end; at most n records.
+unfoldable pub keywordsFrom : ℕ → List ℕ → ℕ → ℕ → List (List ℕ)
+unfolding keywordIn readAt
+keywordsFrom zero bytes end at = []
+keywordsFrom (suc n) bytes end at =
+    let rest : List (List ℕ) = keywordsFrom n bytes end (spanOf end (readAt bytes at) .next) in
+    cond (ltb at end) (keywordIn bytes (readAt bytes at) ++ rest) []
+
+-- A record has at least one byte, so there are no more records than bytes.
+unfoldable pub keywordsBefore : List ℕ → ℕ → List (List ℕ)
+unfolding keywordsFrom
+keywordsBefore bytes end = keywordsFrom (length bytes) bytes end 0

@@ -1,0 +1,19 @@
+// The phrase book: a reader that goes from record to record in the lent bytes, and judge, which says whether the bytes are a
+// book within the limits or why and where they are refused.
+pub mod answers;
+pub mod judging;
+mod gaps;
+mod kinds;
+mod limits;
+mod phrases;
+mod prefixes;
+mod progress;
+pub mod records;
+mod turns;
+
+pub use answers::Judged;
+pub use answers::Refusal;
+pub use judging::judge;
+pub use records::Cursor;
+pub use records::Found;
+pub use records::read;
