@@ -1,0 +1,114 @@
+-- The sheet keeps its length through every phrase; the phrases that are left fall.
+-- Assumes nothing.
+use Prim.Native.Nat.{_≤_, _-_}
+use mathlib.Core.Path.{_≡_}
+use lib.ListN.{length}
+use native.Mathlib.Omega.{arith}
+use borrow.Author.Needs.{needs}
+use Rattle.limits.proofs.longest.Statement.{statement}
+use Rattle.limits.proofs.longest.Tie as tie
+
+abbrev Inv-loop : tie.InvT-loop
+Inv-loop book₀ at₀ n₀ t5 book at n = (n ≤ 128) × (length book ≡ 12288)
+
+abbrev μ-loop : tie.MeasureT-loop
+μ-loop book₀ at₀ n₀ t5 book at n = 128 - n
+
+slice-aggregate-header : tie.Need-slice-aggregate-header Inv-loop μ-loop
+slice-aggregate-header c = search needs
+
+header-requires : tie.Need-header-requires Inv-loop μ-loop
+header-requires c κs = search needs
+
+loop-holds : tie.Need-loop-holds Inv-loop μ-loop
+loop-holds c = search needs
+
+slice-aggregate-phrase : tie.Need-slice-aggregate-phrase Inv-loop μ-loop
+slice-aggregate-phrase c = search needs
+
+add-phrase : tie.Need-add-phrase Inv-loop μ-loop
+add-phrase c = search needs
+
+phrase-requires : tie.Need-phrase-requires Inv-loop μ-loop
+phrase-requires c κs = search needs
+
+slice-aggregate-bounded : tie.Need-slice-aggregate-bounded Inv-loop μ-loop
+slice-aggregate-bounded c = search needs
+
+bounded-requires : tie.Need-bounded-requires Inv-loop μ-loop
+bounded-requires c κs = search needs
+
+slice-aggregate-keyword : tie.Need-slice-aggregate-keyword Inv-loop μ-loop
+slice-aggregate-keyword c = search needs
+
+keyword-requires : tie.Need-keyword-requires Inv-loop μ-loop
+keyword-requires c κs = search needs
+
+slice-aggregate-bounded-2 : tie.Need-slice-aggregate-bounded-2 Inv-loop μ-loop
+slice-aggregate-bounded-2 c = search needs
+
+bounded-requires-2 : tie.Need-bounded-requires-2 Inv-loop μ-loop
+bounded-requires-2 c κs = search needs
+
+slice-aggregate-keyword-2 : tie.Need-slice-aggregate-keyword-2 Inv-loop μ-loop
+slice-aggregate-keyword-2 c = search needs
+
+keyword-requires-2 : tie.Need-keyword-requires-2 Inv-loop μ-loop
+keyword-requires-2 c κs = search needs
+
+add-n : tie.Need-add-n Inv-loop μ-loop
+add-n c = search needs
+
+loop-less : tie.Need-loop-less Inv-loop μ-loop
+loop-less c = search needs
+
+loop-again : tie.Need-loop-again Inv-loop μ-loop
+loop-again c = search needs
+
+slice-aggregate-end : tie.Need-slice-aggregate-end Inv-loop μ-loop
+slice-aggregate-end c = search needs
+
+end-requires : tie.Need-end-requires Inv-loop μ-loop
+end-requires c κs = search needs
+
+slice-aggregate-line : tie.Need-slice-aggregate-line Inv-loop μ-loop
+slice-aggregate-line c = search needs
+
+slice-aggregate-line-2 : tie.Need-slice-aggregate-line-2 Inv-loop μ-loop
+slice-aggregate-line-2 c = search needs
+
+line-requires : tie.Need-line-requires Inv-loop μ-loop
+line-requires c κs = search needs
+
+returns : tie.Need-returns Inv-loop μ-loop
+returns c = search needs
+
+pub longest-spec : {M : Type 1} → statement M
+longest-spec =
+    tie.close
+    (tie.spec
+    Inv-loop
+    μ-loop
+    slice-aggregate-header
+    header-requires
+    loop-holds
+    slice-aggregate-phrase
+    add-phrase
+    phrase-requires
+    slice-aggregate-bounded
+    bounded-requires
+    slice-aggregate-keyword
+    keyword-requires
+    slice-aggregate-bounded-2
+    bounded-requires-2
+    slice-aggregate-keyword-2
+    keyword-requires-2
+    add-n
+    loop-less
+    loop-again
+    slice-aggregate-end
+    end-requires
+    slice-aggregate-line
+    slice-aggregate-line-2
+    line-requires
+    returns)

@@ -1,0 +1,22 @@
+-- The record's bytes are written one after the other.
+-- Assumes nothing.
+use borrow.Author.Needs.{needs}
+use Rattle.sheet.specs.Sheets.{withAll, endOf}
+use Rattle.sheet.proofs.end.Statement.{statement}
+use Rattle.sheet.proofs.end.Tie as tie
+
+byte-requires : tie.Need-byte-requires
+byte-requires c κs = search needs
+
+two-requires : tie.Need-two-requires
+two-requires c κs = search needs
+
+same-length : tie.Need-same-length
+same-length c = search needs
+
+returns : tie.Need-returns
+unfolding withAll endOf
+returns c = cc
+
+pub end-spec : {M : Type 1} → statement M
+end-spec = tie.close (tie.spec byte-requires two-requires same-length returns)
