@@ -1,8 +1,8 @@
 // The phrase book: a reader that goes from record to record in the lent bytes, and judge, which says whether the bytes are a
 // book within the limits or why and where they are refused.
 pub mod answers;
-pub mod judging;
 mod gaps;
+pub mod judging;
 mod kinds;
 mod limits;
 mod phrases;

@@ -1,0 +1,12 @@
+pub mod Followed
+pub mod Once
+pub mod Spots
+pub mod Pieces
+pub mod Endings
+pub mod Chains
+pub mod Parts
+pub mod Fields
+pub mod Fits
+pub mod Meant
+pub mod Passing
+pub mod Row

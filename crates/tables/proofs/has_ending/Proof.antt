@@ -1,0 +1,16 @@
+-- The mark of an ending is the highest bit of the info, so the test is one comparison.
+-- Assumes nothing.
+use Rattle.tables.specs.Reads.{endingIn}
+use borrow.Author.Needs.{needs}
+use Rattle.tables.proofs.has_ending.Statement.{statement}
+use Rattle.tables.proofs.has_ending.Tie as tie
+
+info-requires : tie.Need-info-requires
+info-requires c κs = search needs
+
+returns : tie.Need-returns
+unfolding endingIn
+returns c = cc
+
+pub has-ending-spec : {M : Type 1} → statement M
+has-ending-spec = tie.close (tie.spec info-requires returns)

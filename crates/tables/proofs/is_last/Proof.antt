@@ -1,0 +1,16 @@
+-- The lowest bit of the ends is tested.
+-- Assumes nothing.
+use Rattle.tables.specs.Reads.{lastIn}
+use borrow.Author.Needs.{needs}
+use Rattle.tables.proofs.is_last.Statement.{statement}
+use Rattle.tables.proofs.is_last.Tie as tie
+
+ends-requires : tie.Need-ends-requires
+ends-requires c κs = search needs
+
+returns : tie.Need-returns
+unfolding lastIn
+returns c = cc
+
+pub is-last-spec : {M : Type 1} → statement M
+is-last-spec = tie.close (tie.spec ends-requires returns)

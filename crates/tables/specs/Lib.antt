@@ -1,0 +1,6 @@
+pub mod Regions
+pub mod Spots
+pub mod Endings
+pub mod Layout
+pub mod Reads
+pub mod Passing

@@ -1,0 +1,33 @@
+-- Test 12 for table memory: what begin and feed ask of the lent bytes before they read tables in them. Its time is constant.
+-- Assumes nothing: these are definitions.
+use mathlib.Core.Path.{_≡_}
+use mathlib.Core.Bool.{Bool, _&&_}
+use mathlib.Core.List.{List}
+use Prim.Native.Nat.{ℕ, _≤_}
+use lib.Dec.{leb, eqb}
+use lib.ListN.{length}
+use Rattle.lent.specs.Numbers.{numberAt}
+use Rattle.format.specs.Limits.{Between}
+use Rattle.tables.specs.Layout.{tablesSize, tagAt, roomForStates, roomForPieces, roomForPhrases, tablesTag}
+use Rattle.tables.specs.Reads.{stateCountIn, pieceCountIn, phraseCountIn}
+
+-- The lent bytes pass: they are as many as published, begin with the tag of built tables, and have their counts in range.
+pub record TablesPass (t : List ℕ) : Type 0 where
+  pub long : tablesSize ≤ length t
+  pub tag : numberAt 8 t tagAt ≡ tablesTag
+  pub states : Between 2 roomForStates (stateCountIn t)
+  pub pieces : Between 1 roomForPieces (pieceCountIn t)
+  pub phrases : Between 1 roomForPhrases (phraseCountIn t)
+
+unfoldable pub between : ℕ → ℕ → ℕ → Bool
+between low high n = leb low n && leb n high
+
+-- The same as a test.
+unfoldable pub tablesPass : List ℕ → Bool
+unfolding between
+tablesPass t =
+    leb tablesSize (length t)
+    && (eqb (numberAt 8 t tagAt) tablesTag
+    && (between 2 roomForStates (stateCountIn t)
+    && (between 1 roomForPieces (pieceCountIn t)
+    && between 1 roomForPhrases (phraseCountIn t))))
