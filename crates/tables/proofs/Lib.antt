@@ -9,4 +9,3 @@ pub mod Fields
 pub mod Fits
 pub mod Meant
 pub mod Passing
-pub mod Row
