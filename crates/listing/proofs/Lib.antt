@@ -1,0 +1,4 @@
+pub mod Digits
+pub mod Filling
+pub mod Lengths
+pub mod Whole
