@@ -1,7 +1,8 @@
 // Counters that cannot be taken for each other: states of the automaton, places in the letter and phrase numbers, and
 // beside these three the rank of a phrase in its book. The number inside is private: only these functions make or read one.
 ghost use mathlib.Core.Path.{_≡_};
-ghost use Prim.Native.Nat.{_+_, _<_};
+ghost use Prim.Native.Nat.{_+_, _≤_, _<_};
+ghost use lib.Dec.{ltb};
 
 // The number of a state of the automaton.
 pub struct State(u16);
@@ -70,6 +71,20 @@ impl Place {
         ensures { λ r. ⌜ r .0 ≡ self .0 + 1 ⌝ }
     {
         Place(self.0 + 1)
+    }
+
+    // The place so many bytes later.
+    pub fn later(self, by: u64) -> Place
+        requires { ⌜ self .0 + by ≤ 18446744073709551615 ⌝ }
+        ensures { λ r. ⌜ r .0 ≡ self .0 + by ⌝ }
+    {
+        Place(self.0 + by)
+    }
+
+    pub fn is_before(self, other: Place) -> bool
+        ensures { λ r. ⌜ r ≡ ltb (self .0) (other .0) ⌝ }
+    {
+        self.0 < other.0
     }
 }
 

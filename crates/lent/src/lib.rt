@@ -1,8 +1,10 @@
-// Numbers in lent bytes, read and written at a place: of 2, 4 and 8 bytes low byte first, and of 2 bytes high byte first.
+// Numbers in lent bytes, read and written at a place: of 2, 4 and 8 bytes low byte first, and of 2 bytes high byte first; and
+// bytes made zero.
 ghost use mathlib.Core.Path.{_≡_};
 ghost use Prim.Native.Nat.{_+_, _≤_, _<_};
 ghost use lib.ListN.{length};
 ghost use Rattle.lent.specs.Numbers.{numberAt, highNumberAt, withNumber, withHighNumber};
+ghost use Rattle.lent.specs.Zeros.{withZeros};
 
 // How many numbers one byte, two bytes and four bytes can hold.
 const BYTE: u16 = 256;
@@ -144,4 +146,14 @@ pub fn put2_high(s: &mut [u8], at: usize, v: u16)
 {
     s[at] = (v / BYTE) as u8;
     s[at + 1] = (v % BYTE) as u8;
+}
+
+// Makes some bytes zero.
+pub fn clear(s: &mut [u8], at: usize, count: usize)
+    requires { ⌜ at + count ≤ length (now s) ⌝ }
+    ensures { λ _. ⌜ now (s .exit) ≡ withZeros (now (s .entry)) at count ⌝ }
+{
+    for i in 0..count {
+        s[at + i] = 0;
+    }
 }
