@@ -8,10 +8,13 @@ use lib.ListN.{drop, getD}
 use lib.Seq.{getD-take, getD-drop}
 use borrow.Author.Tests.{ne-eqb}
 use Rattle.lent.specs.Numbers.{highNumberAt}
+use Rattle.counters.specs.declared.Number.{Number}
+use Rattle.counters.specs.Counters.{numberOf}
 use Rattle.format.specs.Written.{headerKind, phraseKind, boundedKind, openKind, endKind}
 use Rattle.format.specs.Faults.{bodyLength, two}
-use Rattle.book.specs.declared.records.Found.the-variants.{Header, Open, Keyword, End}
-use Rattle.book.specs.Records.{headerBody, phraseBody, boundedBody, openBody, endBody, bodyAt, cursorAt, headerAt, phraseAt, boundedAt, openAt, endAt, keywordAt, foundFor, wholeAt}
+use Rattle.book.specs.declared.records.Cursor.{Cursor}
+use Rattle.book.specs.declared.records.Found.the-variants.{Header, Phrase, Bounded, Open, Keyword, End}
+use Rattle.book.specs.Records.{headerBody, phraseBody, boundedBody, openBody, endBody, bodyAt, cursorAt, headerAt, phraseAt, boundedAt, openAt, endAt, keywordAt, wholeAt}
 
 module _ (bytes : List ℕ) (at : ℕ) where
   -- The byte i of the body.
@@ -33,31 +36,35 @@ module _ (bytes : List ℕ) (at : ℕ) where
 
   -- ── Each record, field by field ──
 
+  -- Records are the same where their fields are.
+  same-phrase : {m n : Number} {r s : ℕ} {c d : Cursor} → m ≡ n → r ≡ s → c ≡ d → Phrase m r c ≡ Phrase n s d
+  same-phrase e f g = rw (e, f, g)
+
+  same-bounded : {l m r s : ℕ} {c d : Cursor} → l ≡ m → r ≡ s → c ≡ d → Bounded l r c ≡ Bounded m s d
+  same-bounded e f g = rw (e, f, g)
+
   pub header-whole : headerAt bytes at ≡ wholeAt bytes at headerKind
-  unfolding wholeAt foundFor bodyLength
-  header-whole = ap₂ Header (sym (body-byte headerKind 0 (at + 1) (omega arith) (omega arith))) (behind headerBody)
+  unfolding wholeAt bodyLength
+  header-whole = ap₂ Header (sym (body-byte headerKind 0 _ (omega arith) (omega arith))) (behind headerBody)
 
   pub phrase-whole : phraseAt bytes at ≡ wholeAt bytes at phraseKind
-  unfolding wholeAt foundFor bodyLength
-  phrase-whole =
-      let rights : getD (bodyAt bytes at phraseKind) 2 0 ≡ getD bytes (at + 3) 0 = body-byte phraseKind 2 (at + 3) (omega arith) (omega arith) in
-      rw (behind phraseBody, body-number phraseKind 0 (at + 1) (omega arith) (omega arith), ← rights)
+  unfolding wholeAt bodyLength
+  phrase-whole = same-phrase (ap numberOf (body-number phraseKind 0 _ (omega arith) (omega arith))) (sym (body-byte phraseKind 2 _ (omega arith) (omega arith))) (behind phraseBody)
 
   pub bounded-whole : boundedAt bytes at ≡ wholeAt bytes at boundedKind
-  unfolding wholeAt foundFor bodyLength
-  bounded-whole =
-      rw (behind boundedBody, body-number boundedKind 0 (at + 1) (omega arith) (omega arith), body-number boundedKind 2 (at + 3) (omega arith) (omega arith))
+  unfolding wholeAt bodyLength
+  bounded-whole = same-bounded (body-number boundedKind 0 _ (omega arith) (omega arith)) (body-number boundedKind 2 _ (omega arith) (omega arith)) (behind boundedBody)
 
   pub open-whole : openAt bytes at ≡ wholeAt bytes at openKind
-  unfolding wholeAt foundFor bodyLength
-  open-whole = ap₂ Open (body-number openKind 0 (at + 1) (omega arith) (omega arith)) (behind openBody)
+  unfolding wholeAt bodyLength
+  open-whole = ap₂ Open (body-number openKind 0 _ (omega arith) (omega arith)) (behind openBody)
 
   pub end-whole : endAt bytes at ≡ wholeAt bytes at endKind
-  unfolding wholeAt foundFor bodyLength
-  end-whole = ap₂ End (body-number endKind 0 (at + 1) (omega arith) (omega arith)) (behind endBody)
+  unfolding wholeAt bodyLength
+  end-whole = ap₂ End (body-number endKind 0 _ (omega arith) (omega arith)) (behind endBody)
 
   pub keyword-whole : (k : ℕ) → (k ≡ headerKind → ⊥) → (k ≡ phraseKind → ⊥) → (k ≡ boundedKind → ⊥) → (k ≡ openKind → ⊥) → (k ≡ endKind → ⊥)
       → keywordAt at (bodyLength k) ≡ wholeAt bytes at k
-  unfolding wholeAt foundFor
+  unfolding wholeAt
   keyword-whole k a b c d e =
       simp (ne-eqb k headerKind a, ne-eqb k phraseKind b, ne-eqb k boundedKind c, ne-eqb k openKind d, ne-eqb k endKind e) (ap (Keyword (at + 1) (bodyLength k)) (behind (bodyLength k)))

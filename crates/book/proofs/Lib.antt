@@ -11,4 +11,5 @@ pub mod TurnByTests
 pub mod Agree
 pub mod Turned
 pub mod Reading
+pub mod Answered
 pub mod Once

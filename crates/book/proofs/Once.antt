@@ -14,7 +14,8 @@ use Rattle.book.specs.declared.answers.Judged.the-variants.{Accepted, Re
 use Rattle.book.specs.Refusals.{reasonOf, refusalFor}
 use Rattle.book.specs.Answers.{saidBy, Meant, JudgedRight}
 
-reason-back : (why : Refusal) → refusalFor (reasonOf why) ≡ why
+-- A refusal of the code is named as its reason is.
+pub reason-back : (why : Refusal) → refusalFor (reasonOf why) ≡ why
 unfolding reasonOf refusalFor
 reason-back Cut = refl
 reason-back Kind = refl

@@ -75,7 +75,7 @@ Comes bytes at (Done judged-so) = saidBy judged-so ≡ answerOf (judged bytes)
 
 -- ── What comes of a turn ──
 
-refusal-said : (why : format.Refusal) → reasonOf (refusalFor why) ≡ why
+pub refusal-said : (why : format.Refusal) → reasonOf (refusalFor why) ≡ why
 unfolding reasonOf refusalFor
 refusal-said cut = refl
 refusal-said kind = refl

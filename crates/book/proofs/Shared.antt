@@ -20,14 +20,23 @@ use Rattle.book.specs.Prefixes.{bytesFrom, spanOf, Inside, keywordIn, ke
 
 -- ── Where the next record is ──
 
--- The next record lies ahead, up to the end, and the keyword lies in the book.
-record Ahead (bytes : List ℕ) (at end : ℕ) (found : Found) : Type 0 where
-  next : at < end → at < spanOf end found .next
-  inside : Inside bytes end found
+-- The next record lies ahead, whatever end is set, and the keyword lies in the book.
+record Ahead (bytes : List ℕ) (at : ℕ) (found : Found) : Type 0 where
+  next : (end : ℕ) → at < end → at < spanOf end found .next
+  inside : Inside bytes found
 
 either : (P : Found → Type 0) (test : Bool) {x y : Found} → P x → P y → P (cond test x y)
 either P true p q = p
 either P false p q = q
+
+keyword-inside : (bytes : List ℕ) (end : ℕ) (found : Found) → Inside bytes found → spanOf end found .start + spanOf end found .count ≤ length bytes
+keyword-inside bytes end (Header edition next) inside = omega arith
+keyword-inside bytes end (Phrase number rights next) inside = omega arith
+keyword-inside bytes end (Bounded least most next) inside = omega arith
+keyword-inside bytes end (Open least next) inside = omega arith
+keyword-inside bytes end (Keyword start count next) inside = omega arith
+keyword-inside bytes end (End count next) inside = omega arith
+keyword-inside bytes end (Refused why at) inside = omega arith
 
 -- A whole record ends behind its body.
 pub whole-next : (bytes : List ℕ) (at k end : ℕ) → spanOf end (wholeAt bytes at k) .next ≡ at + (1 + bodyLength k)
@@ -40,19 +49,19 @@ whole-next bytes at k end =
     Next : Found → Type 0
     Next found = spanOf end found .next ≡ at + (1 + bodyLength k)
 
-module _ (bytes : List ℕ) (at end : ℕ) where
+module _ (bytes : List ℕ) (at : ℕ) where
   abbrev Goes : Found → Type 0
-  Goes found = Ahead bytes at end found
+  Goes found = Ahead bytes at found
 
   record-ahead : (k : ℕ) (body : List ℕ) → at + (1 + bodyLength k) ≤ length bytes → Goes (foundFor at k body)
   unfolding foundFor
   record-ahead k body long =
-      either Goes (eqb k headerKind) (record { next = λ more. omega arith; inside = omega arith })
-      (either Goes (eqb k phraseKind) (record { next = λ more. omega arith; inside = omega arith })
-      (either Goes (eqb k boundedKind) (record { next = λ more. omega arith; inside = omega arith })
-      (either Goes (eqb k openKind) (record { next = λ more. omega arith; inside = omega arith })
-      (either Goes (eqb k endKind) (record { next = λ more. omega arith; inside = omega arith })
-      (record { next = λ more. omega arith; inside = omega arith })))))
+      either Goes (eqb k headerKind) (record { next = λ end more. omega arith; inside = tt })
+      (either Goes (eqb k phraseKind) (record { next = λ end more. omega arith; inside = tt })
+      (either Goes (eqb k boundedKind) (record { next = λ end more. omega arith; inside = tt })
+      (either Goes (eqb k openKind) (record { next = λ end more. omega arith; inside = tt })
+      (either Goes (eqb k endKind) (record { next = λ end more. omega arith; inside = tt })
+      (record { next = λ end more. omega arith; inside = omega arith })))))
 
   read-ahead : Goes (readAt bytes at)
   unfolding readAt
@@ -66,20 +75,20 @@ module _ (bytes : List ℕ) (at end : ℕ) where
 
       go : (past : Bool) → leb (length bytes) at ≡ past → (is short : Bool) → ltb (length (drop (at + 1) bytes)) (bodyLength k) ≡ short
           → Goes (foundAs at (cond past (nothing cut (length bytes)) (cond (not is) (nothing kind at) (cond short (nothing cut at) (whole k (bodyAt bytes at k) (at + (1 + bodyLength k)))))))
-      go true p is short q = record { next = λ more. more; inside = omega arith }
-      go false p false short q = record { next = λ more. more; inside = omega arith }
-      go false p true true q = record { next = λ more. more; inside = omega arith }
+      go true p is short q = record { next = λ end more. more; inside = tt }
+      go false p false short q = record { next = λ end more. more; inside = tt }
+      go false p true true q = record { next = λ end more. more; inside = tt }
       go false p true false q = record-ahead k (bodyAt bytes at k) (long p q)
 
-  pub read-inside : Inside bytes end (readAt bytes at)
+  pub read-inside : Inside bytes (readAt bytes at)
   read-inside = read-ahead .inside
 
-  module _ (span : Span) (is : span ≡ spanOf end (readAt bytes at)) where
+  module _ (end : ℕ) (span : Span) (is : span ≡ spanOf end (readAt bytes at)) where
     pub span-inside : span .start + span .count ≤ length bytes
-    span-inside = rw is (read-ahead .inside)
+    span-inside = rw is (keyword-inside bytes end (readAt bytes at) read-inside)
 
     pub span-ahead : at < end → at < span .next
-    span-ahead more = rw is (read-ahead .next more)
+    span-ahead more = rw is (read-ahead .next end more)
 
 -- ── The most that is shared ──
 
@@ -144,7 +153,7 @@ module _ (bytes : List ℕ) (end : ℕ) where
         go : (n : ℕ) → end ≤ n + at → max most (mostShared (keywordsFrom n bytes end at) w) ≡ mostShared (keywordsBefore bytes end) w → Sharing w (spanOf end found .next) (max most shared)
         go zero enough rest = absurd (omega arith)
         go (suc n) enough rest =
-            let ahead = read-ahead bytes at end .next more in
+            let ahead = read-ahead bytes at .next end more in
             let step : mostShared (keywordsFrom (suc n) bytes end at) w ≡ max (mostShared (keywordIn bytes found) w) (mostShared (keywordsFrom n bytes end (spanOf end found .next)) w)
             = ap (λ (ws : List (List ℕ)). mostShared ws w) (more-records n at more) ∙ shared-append (keywordIn bytes found) (keywordsFrom n bytes end (spanOf end found .next)) w in
             record { fuel = n; enough = omega arith; rest = omega (arith, own) }

@@ -8,7 +8,7 @@ use Rattle.meaning.specs.Books.{Gap, Piece, Phrase, keywords}
 use Rattle.format.specs.Prefixes.{prefixCount}
 use Rattle.format.specs.Limits.{pieceCount}
 use Rattle.format.specs.Stages.{Stage, start, headed, named, gapped, worded, ended, phrasesAt, piecesAt, SoFar}
-use Rattle.format.specs.Faults.{lastNumber, allowed, mayStop, two}
+use Rattle.format.specs.Faults.{lastNumber, allowed, two}
 use Rattle.format.specs.Judged.{phraseOf, withPiece}
 use Rattle.format.proofs.Lists.{length-further}
 use Rattle.format.proofs.Counted.{count-pieces, keywords-named, keywords-further}
@@ -16,7 +16,7 @@ use Rattle.counters.specs.declared.Number.{Number}
 use Rattle.counters.specs.Counters.{numberOf}
 use Rattle.counters.proofs.Same.{same-number}
 use Rattle.book.specs.declared.progress.Stage.the-variants as name
-use Rattle.book.specs.Judging.{Small, allowedOf, mayStopAt}
+use Rattle.book.specs.Judging.{Small, allowedOf}
 use Rattle.book.specs.Tallies.{nameOf, tally}
 
 -- ── Stages ──
@@ -29,15 +29,6 @@ allowed-name (named phrases phrase) k = refl
 allowed-name (gapped phrases phrase gap) k = refl
 allowed-name (worded phrases phrase) k = refl
 allowed-name (ended phrases) k = refl
-
-pub stops-name : (stage : Stage) → mayStopAt (nameOf stage) ≡ mayStop stage
-unfolding nameOf mayStop
-stops-name start = refl
-stops-name headed = refl
-stops-name (named phrases phrase) = refl
-stops-name (gapped phrases phrase gap) = refl
-stops-name (worded phrases phrase) = refl
-stops-name (ended phrases) = refl
 
 -- ── Counts ──
 

@@ -83,7 +83,7 @@ refuses at next false why others stage = refl
 module _ (at next : ℕ) where
   pub header-turn : (edition : ℕ) → headerTurn (tally start) edition at next ≡ turnFor at next (cond (not (eqb edition theEdition)) (some field) none) headed
   unfolding headerTurn tally nameOf phrasesAt piecesAt refusalFor turnFor
-  header-turn edition = simp refuses
+  header-turn edition = rw refuses refl
 
   module _ (stage : Stage) where
     pub phrase-turn : (body : List ℕ) → phraseTurn (tally stage) (numberOf (two body 0)) (getD body 2 0) at next
@@ -93,12 +93,12 @@ module _ (at next : ℕ) where
         (cond (leb mostPhrases (length (phrasesAt stage))) (some many) none)))
         (named (phrasesAt stage) (phraseOf body))
     unfolding phraseTurn tally refusalFor turnFor
-    phrase-turn body = simp refuses (rw (named-tally (phrasesAt stage) body))
+    phrase-turn body = rw (refuses, refuses, refuses, ← named-tally (phrasesAt stage) body) refl
 
     module _ (phrases : List Phrase) (phrase : Phrase) (gap : Gap) (is : phrasesAt stage ≡ phrases ++ phrase ∷ []) (own : piecesAt stage ≡ phrase .pieces) where
       gap-turn : gapTurn (tally stage) at next ≡ turnFor at next (cond (noRoom stage) (some many) none) (gapped phrases phrase gap)
       unfolding gapTurn tally nameOf refusalFor turnFor phrasesAt piecesAt
-      gap-turn = simp refuses (rw (is, own))
+      gap-turn = rw (refuses, is, own) refl
 
       pub bounded-turn : (least most : ℕ) → boundedTurn (tally stage) least most at next
           ≡ turnFor at next (cond (not (leb least mostLeast && leb most mostMost)) (some field) (cond (ltb most least) (some crossed) (cond (noRoom stage) (some many) none)))
@@ -114,7 +114,7 @@ module _ (at next : ℕ) where
   pub end-turn : (phrases : List Phrase) (phrase : Phrase) (count : ℕ) → endTurn (tally (worded phrases phrase)) count at next
       ≡ turnFor at next (cond (not (eqb count (length (phrases ++ phrase ∷ [])))) (some total) none) (ended (phrases ++ phrase ∷ []))
   unfolding endTurn tally nameOf phrasesAt piecesAt refusalFor turnFor
-  end-turn phrases phrase count = simp refuses
+  end-turn phrases phrase count = rw refuses refl
 
   module _ (bytes : List ℕ) (phrases : List Phrase) (phrase : Phrase) (gap : Gap) (before : keywordsBefore bytes at ≡ keywords (phrases ++ phrase ∷ [])) where
     prefixes-with : (x n : ℕ) → length (bytesFrom x n bytes) ≡ n

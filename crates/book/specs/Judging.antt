@@ -48,18 +48,24 @@ mayStopAt Gapped = false
 mayStopAt Worded = false
 mayStopAt Ended = true
 
+-- Done, with a refusal for the record at an offset.
 abbrev pub refuse : Refusal → ℕ → Turn
 refuse why at = Done (Refused why at)
 
+-- The same counts at another stage.
 abbrev pub moved : Progress → Stage → Progress
 moved progress stage =
     record { stage = stage; phrases = progress .phrases; last = progress .last; own = progress .own; pieces = progress .pieces; prefixes = progress .prefixes }
 
 -- ── Each record ──
 
+-- Each definition takes what was read before, the record's fields, its offset and that of the next record.
+
+-- The edition must be 1.
 unfoldable pub headerTurn : Progress → ℕ → ℕ → ℕ → Turn
 headerTurn progress edition at next = cond (not (eqb edition theEdition)) (refuse Field at) (Next next (moved progress Headed))
 
+-- Phrase number 1 to 65,535, rights code 1 to 12; the number above the one before; at most 128 phrases.
 unfoldable pub phraseTurn : Progress → Number → ℕ → ℕ → ℕ → Turn
 phraseTurn progress number rights at next =
     cond (not (between 1 mostNumber (number .0) && between 1 mostRights rights)) (refuse Field at)
@@ -67,10 +73,12 @@ phraseTurn progress number rights at next =
     (cond (leb mostPhrases (progress .phrases)) (refuse Many at)
     (Next next (record { stage = Named; phrases = progress .phrases + 1; last = number; own = 0; pieces = progress .pieces; prefixes = progress .prefixes }))))
 
+-- At most 8 pieces in a phrase and 256 in a book; a gap is the first record of its piece.
 unfoldable pub gapTurn : Progress → ℕ → ℕ → Turn
 gapTurn progress at next =
     cond (leb mostPiecesOfPhrase (progress .own) || leb mostPieces (progress .pieces)) (refuse Many at) (Next next (moved progress Gapped))
 
+-- Least 0 to 224, most 0 to 60,000, and least not above most.
 unfoldable pub boundedTurn : Progress → ℕ → ℕ → ℕ → ℕ → Turn
 boundedTurn progress least most at next =
     cond (ltb mostLeast least) (refuse Field at)
@@ -78,13 +86,16 @@ boundedTurn progress least most at next =
     (cond (ltb most least) (refuse Crossed at)
     (gapTurn progress at next)))
 
+-- An open gap has no most.
 unfoldable pub openTurn : Progress → ℕ → ℕ → ℕ → Turn
 openTurn progress least at next = cond (ltb mostLeast least) (refuse Field at) (gapTurn progress at next)
 
--- How many prefixes there are with a keyword of so many bytes, from an offset on.
+-- How many different prefixes there are with the keyword of so many bytes from an offset on: those before, and its length less what
+-- it shares with an earlier keyword.
 unfoldable pub prefixesWith : List ℕ → Progress → ℕ → ℕ → ℕ → ℕ
 prefixesWith bytes progress start count at = progress .prefixes + (count - mostShared (keywordsBefore bytes at) (bytesFrom start count bytes))
 
+-- At most 2,047 different nonempty prefixes of keywords. With its keyword a piece is whole, and is counted.
 unfoldable pub keywordTurn : List ℕ → Progress → ℕ → ℕ → ℕ → ℕ → Turn
 keywordTurn bytes progress start count at next =
     cond (ltb mostPrefixes (prefixesWith bytes progress start count at)) (refuse Full at)
@@ -97,6 +108,7 @@ keywordTurn bytes progress start count at next =
       prefixes = prefixesWith bytes progress start count at;
     }))
 
+-- The end record's number is the number of phrases.
 unfoldable pub endTurn : Progress → ℕ → ℕ → ℕ → Turn
 endTurn progress count at next =
     cond (not (eqb count (progress .phrases))) (refuse Total at)

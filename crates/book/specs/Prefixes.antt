@@ -22,13 +22,19 @@ spanOf end (Header edition next) = noKeyword (next .at)
 spanOf end (Phrase number rights next) = noKeyword (next .at)
 spanOf end (Bounded least most next) = noKeyword (next .at)
 spanOf end (Open least next) = noKeyword (next .at)
-spanOf end (Keyword start length next) = record { start = start; count = length; next = next .at }
+spanOf end (Keyword start count next) = record { start = start; count = count; next = next .at }
 spanOf end (End count next) = noKeyword (next .at)
 spanOf end (Refused why at) = noKeyword end
 
--- The keyword of a record lies in the book.
-abbrev pub Inside : List ℕ → ℕ → Found → Type 0
-Inside bytes end found = spanOf end found .start + spanOf end found .count ≤ length bytes
+-- A keyword that was found lies in the book.
+abbrev pub Inside : List ℕ → Found → Type 0
+Inside bytes (Header edition next) = Unit {0}
+Inside bytes (Phrase number rights next) = Unit {0}
+Inside bytes (Bounded least most next) = Unit {0}
+Inside bytes (Open least next) = Unit {0}
+Inside bytes (Keyword start count next) = start + count ≤ length bytes
+Inside bytes (End count next) = Unit {0}
+Inside bytes (Refused why at) = Unit {0}
 
 -- The keyword of a record, if it is one.
 unfoldable pub keywordIn : List ℕ → Found → List (List ℕ)
@@ -36,7 +42,7 @@ keywordIn bytes (Header edition next) = []
 keywordIn bytes (Phrase number rights next) = []
 keywordIn bytes (Bounded least most next) = []
 keywordIn bytes (Open least next) = []
-keywordIn bytes (Keyword start length next) = bytesFrom start length bytes ∷ []
+keywordIn bytes (Keyword start count next) = bytesFrom start count bytes ∷ []
 keywordIn bytes (End count next) = []
 keywordIn bytes (Refused why at) = []
 

@@ -15,6 +15,7 @@ use crate::progress::Turn;
 use crate::progress::move_to;
 use crate::turns::refused;
 
+// Would one piece more be the ninth of its phrase or the 257th of the book?
 fn no_room(progress: Progress) -> bool
     ensures { λ r. ⌜ r ≡ leb mostPiecesOfPhrase (progress .own) || leb mostPieces (progress .pieces) ⌝ }
 {
@@ -34,6 +35,7 @@ fn gap(progress: Progress, at: usize, next: usize) -> Turn
     }
 }
 
+// A bounded gap at an offset, with the offset of the next record.
 pub fn bounded(progress: Progress, least: u16, most: u16, at: usize, next: usize) -> Turn
     ensures { λ r. ⌜ r ≡ boundedTurn progress least most at next ⌝ }
 {
@@ -49,6 +51,7 @@ pub fn bounded(progress: Progress, least: u16, most: u16, at: usize, next: usize
     gap(progress, at, next)
 }
 
+// An open gap, the same without a most.
 pub fn open(progress: Progress, least: u16, at: usize, next: usize) -> Turn
     ensures { λ r. ⌜ r ≡ openTurn progress least at next ⌝ }
 {

@@ -28,7 +28,7 @@ use counters::Number;
 fn found_turn(book: &[u8], at: usize, progress: Progress, found: Found) -> Turn
     requires { ⌜ Small progress ⌝ }
     requires { ⌜ at ≤ length (now book) ⌝ }
-    requires { ⌜ Inside (now book) at found ⌝ }
+    requires { ⌜ Inside (now book) found ⌝ }
     ensures { λ r. ⌜ r ≡ foundTurn (now (book .entry)) at progress found ⌝ }
 {
     match found {

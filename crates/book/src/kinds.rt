@@ -17,12 +17,14 @@ use crate::limits::OPEN_KIND;
 use crate::limits::PHRASE_BODY;
 use crate::limits::PHRASE_KIND;
 
+// Is this a gap, bounded or open?
 pub fn is_gap(kind: u8) -> bool
     ensures { λ r. ⌜ r ≡ isGap kind ⌝ }
 {
     kind == BOUNDED_KIND || kind == OPEN_KIND
 }
 
+// Is this a keyword, of 1 to 32 bytes?
 pub fn is_keyword(kind: u8) -> bool
     ensures { λ r. ⌜ r ≡ isKeyword kind ⌝ }
 {

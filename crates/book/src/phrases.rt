@@ -14,12 +14,14 @@ use crate::progress::Turn;
 use crate::turns::refused;
 use counters::Number;
 
+// Is a number from low to high, both included?
 fn is_between(low: u16, high: u16, n: u16) -> bool
     ensures { λ r. ⌜ r ≡ between low high n ⌝ }
 {
     low <= n && n <= high
 }
 
+// Are a phrase's number and rights code in range?
 fn in_range(number: Number, rights: u8) -> bool
     ensures { λ r. ⌜ r ≡ between 1 mostNumber (number .0) && between 1 mostRights rights ⌝ }
 {

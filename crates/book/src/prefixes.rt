@@ -4,7 +4,7 @@ ghost use mathlib.Core.Path.{_≡_};
 ghost use Prim.Native.Nat.{_+_, _-_, _≤_, max};
 ghost use lib.ListN.{length};
 ghost use Rattle.format.specs.Prefixes.{commonPrefix, mostShared};
-ghost use Rattle.book.specs.Prefixes.{bytesFrom, spanOf, keywordsBefore};
+ghost use Rattle.book.specs.Prefixes.{bytesFrom, noKeyword, spanOf, keywordsBefore};
 use crate::records::Cursor;
 use crate::records::Found;
 use crate::records::read;
@@ -17,8 +17,9 @@ pub struct Span {
     pub next: usize,
 }
 
+// A record that is no keyword.
 fn no_keyword(next: usize) -> Span
-    ensures { λ r. ⌜ r ≡ record { start = 0; count = 0; next = next } ⌝ }
+    ensures { λ r. ⌜ r ≡ noKeyword next ⌝ }
 {
     Span {
         start: 0,
@@ -58,6 +59,7 @@ fn span_of(found: Found, end: usize) -> Span
     }
 }
 
+// The larger of two numbers.
 fn larger(m: usize, n: usize) -> usize
     ensures { λ r. ⌜ r ≡ max m n ⌝ }
 {

@@ -13,6 +13,7 @@ use counters::Number;
 pub enum Stage {
     // nothing
     Start,
+    // the header
     Headed,
     // a phrase record
     Named,
@@ -20,12 +21,14 @@ pub enum Stage {
     Gapped,
     // a keyword
     Worded,
+    // the end record
     Ended,
 }
 
+// What is kept of the records read so far: counts, and one number.
 pub struct Progress {
     pub stage: Stage,
-    // The phrases, and the number of the last of them, 0 where there is none.
+    // The phrases, the last one perhaps not whole, and the number of that one, 0 where there is none.
     pub phrases: usize,
     pub last: Number,
     // The whole pieces of the last phrase, and those of the book.
@@ -35,7 +38,7 @@ pub struct Progress {
     pub prefixes: usize,
 }
 
-// After a record: on to the next one, or done.
+// What comes of a record: on to the next one, or done.
 pub enum Turn {
     Next { at: usize, progress: Progress },
     Done { judged: Judged },

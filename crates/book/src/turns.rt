@@ -15,6 +15,7 @@ use crate::progress::Turn;
 use crate::progress::may_stop;
 use crate::progress::move_to;
 
+// The record at an offset is refused, and that is the answer.
 pub fn refused(why: Refusal, at: usize) -> Turn
     ensures { λ r. ⌜ r ≡ refuse why at ⌝ }
 {
@@ -23,7 +24,7 @@ pub fn refused(why: Refusal, at: usize) -> Turn
     }
 }
 
-// Each record, at the offset of its kind byte, with the offset of the next one.
+// A header at an offset, with the offset of the next record.
 pub fn header(progress: Progress, edition: u8, at: usize, next: usize) -> Turn
     ensures { λ r. ⌜ r ≡ headerTurn progress edition at next ⌝ }
 {
@@ -36,7 +37,7 @@ pub fn header(progress: Progress, edition: u8, at: usize, next: usize) -> Turn
     }
 }
 
-// A keyword ends its piece, which is counted here.
+// A keyword of `count` bytes from `start` on. It ends its piece, which is counted here.
 pub fn keyword(
     book: &[u8],
     progress: Progress,
@@ -68,6 +69,7 @@ pub fn keyword(
     }
 }
 
+// An end record. Its number has no range of its own: any wrong one is a wrong total.
 pub fn end(progress: Progress, count: u16, at: usize, next: usize) -> Turn
     ensures { λ r. ⌜ r ≡ endTurn progress count at next ⌝ }
 {

@@ -36,7 +36,7 @@ found-turn-requires : tie.Need-found-turn-requires
 found-turn-requires c κs =
     let entry = c .before .before .before .before .before .before in
     let a = entry .args in
-    (entry .pre .0, (entry .pre .1, rw (c .read .ensures .exact) (read-inside (a .book .now) (a .at) (a .at))))
+    (entry .pre .0, (entry .pre .1, rw (c .read .ensures .exact) (read-inside (a .book .now) (a .at))))
 
 returns-3 : tie.Need-returns-3
 returns-3 c =

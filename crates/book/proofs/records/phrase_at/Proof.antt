@@ -1,12 +1,10 @@
 -- The phrase's number is made of the number that is read. Assumes nothing.
-use mathlib.Core.Path.{_∙_, ap}
-use lib.ListN.{getD}
+use mathlib.Core.Path.{_≡_, _∙_}
 use Prim.Native.Nat.{_+_}
 use borrow.Author.Needs.{needs}
-use Rattle.counters.specs.declared.Number.{Number}
+use Rattle.lent.specs.Numbers.{highNumberAt}
+use Rattle.counters.specs.Counters.{numberOf}
 use Rattle.counters.proofs.Same.{same-number}
-use Rattle.book.specs.declared.records.Found.the-variants.{Phrase}
-use Rattle.book.specs.Records.{phraseBody, cursorAt}
 use Rattle.book.proofs.records.phrase_at.Statement.{statement}
 use Rattle.book.proofs.records.phrase_at.Tie as tie
 
@@ -34,8 +32,8 @@ add-t10 c = search needs
 returns : tie.Need-returns
 returns c =
     let a = c .before .before .before .before .args in
-    ap (λ (number : Number). Phrase number (getD (a .book .now) (a .at + 3) 0) (cursorAt (a .at + 1 + phraseBody)))
-    (same-number (c .before .of .ensures ∙ c .before .before .get2-high .ensures))
+    let number : c .before .of .result ≡ numberOf (highNumberAt 2 (a .book .now) (a .at + 1)) = same-number (c .before .of .ensures ∙ c .before .before .get2-high .ensures) in
+    rw number
 
 pub phrase-at-spec : {M : Type 1} → statement M
 phrase-at-spec =
