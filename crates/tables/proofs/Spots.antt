@@ -18,7 +18,7 @@ use Rattle.tables.specs.Spots.{Spot, none-left, spotsAfter, spotsFrom, s
 
 -- ── Their number ──
 
-length-after : (rank : ℕ) (before pieces : List Piece) → length (spotsAfter rank before pieces) ≡ length pieces
+pub length-after : (rank : ℕ) (before pieces : List Piece) → length (spotsAfter rank before pieces) ≡ length pieces
 unfolding spotsAfter
 length-after rank before [] = refl
 length-after rank before (piece ∷ rest) = ap suc (length-after rank (before ++ piece ∷ []) rest)
