@@ -1,0 +1,12 @@
+pub mod Found
+pub mod Records
+pub mod Stored
+pub mod Columns
+pub mod Held
+pub mod Noting
+pub mod Steps
+pub mod Phrases
+pub mod Right
+pub mod Onward
+pub mod Loop
+pub mod Keywords

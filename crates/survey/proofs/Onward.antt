@@ -1,0 +1,79 @@
+-- A turn does what its record asks for, and goes on behind it, in table memory as long as before. Assumes nothing.
+use mathlib.Core.Path.{_≡_, refl, sym, ap, subst, _∙_}
+use mathlib.Core.Bool.{Bool, true, false, cond}
+use mathlib.Core.List.{List}
+use Prim.Native.Nat.{ℕ, _+_, _≤_, _<_}
+use native.Mathlib.Omega.{arith}
+use lib.Dec.{ltb}
+use lib.ListN.{length}
+use Rattle.tables.specs.Layout.{roomForPieces, roomForPhrases}
+use Rattle.book.specs.declared.records.Found.{Found}
+use Rattle.book.specs.declared.records.Found.the-variants.{Header, Phrase, Bounded, Open, Keyword, End, Refused}
+use Rattle.book.specs.Records.{readAt}
+use Rattle.book.specs.Prefixes.{spanOf}
+use Rattle.book.proofs.Shared.{span-ahead, span-inside}
+use Rattle.counters.specs.declared.Number.{Number}
+use Rattle.survey.specs.declared.turns.Word.{Word}
+use Rattle.survey.specs.Turns.{Reading, phraseTurn, entryFor, keywordTurn, turnFor, turnAt}
+use Rattle.survey.proofs.Stored.{length-withPhrase, length-withPiece}
+use Rattle.survey.proofs.Found.{Short, read-short}
+
+-- ── What the reader told ──
+
+module _ (bytes : List ℕ) (now : Reading) {found told : Found} (is : found ≡ readAt bytes (now .progress .at)) (tells : found ≡ told) where
+  pub turn-told : turnFor bytes now told ≡ turnAt bytes now
+  unfolding turnAt
+  turn-told = ap (turnFor bytes now) (sym tells ∙ is)
+
+  -- A keyword lies in the book,
+  pub inside-told : spanOf 0 told .start + spanOf 0 told .count ≤ length bytes
+  inside-told = span-inside bytes (now .progress .at) 0 (spanOf 0 told) (ap (spanOf 0) (sym tells ∙ is))
+
+  -- and is short.
+  pub short-told : Short told
+  short-told = subst Short (sym is ∙ tells) (read-short bytes (now .progress .at))
+
+-- ── Where the turn goes on ──
+
+-- The next reading stands at an offset, and its table memory is as long as before.
+record Arrives (now next : Reading) (at : ℕ) : Type 0 where
+  there : next .progress .at ≡ at
+  long : length (next .notes .tables) ≡ length (now .notes .tables)
+
+either : (P : Reading → Type 0) (test : Bool) {x y : Reading} → P x → P y → P (cond test x y)
+either P true p q = p
+either P false p q = q
+
+module _ (bytes : List ℕ) (now : Reading) where
+  phrase-on : (number : Number) (rights next : ℕ) → Arrives now (phraseTurn number rights next now) next
+  unfolding phraseTurn
+  phrase-on number rights next =
+      either (λ later. Arrives now later next) (ltb (now .progress .phrases) roomForPhrases)
+      (record { there = refl; long = length-withPhrase (now .progress .phrases) (number .0) rights (now .notes .tables) }) (record { there = refl; long = refl })
+
+  keyword-on : (word : Word) → Arrives now (keywordTurn bytes word now) (word .next)
+  unfolding keywordTurn
+  keyword-on word =
+      either (λ later. Arrives now later (word .next)) (ltb (now .progress .pieces) roomForPieces)
+      (record { there = refl; long = length-withPiece (now .progress .pieces) (entryFor bytes (now .progress) word) (now .notes .tables) }) (record { there = refl; long = refl })
+
+  found-on : (found : Found) → Arrives now (turnFor bytes now found) (spanOf (length bytes) found .next)
+  found-on (Header edition next) = record { there = refl; long = refl }
+  found-on (Phrase number rights next) = phrase-on number rights (next .at)
+  found-on (Bounded least most next) = record { there = refl; long = refl }
+  found-on (Open least next) = record { there = refl; long = refl }
+  found-on (Keyword start count next) = keyword-on (record { start = start; count = count; next = next .at })
+  found-on (End count next) = record { there = refl; long = refl }
+  found-on (Refused why at) = record { there = refl; long = refl }
+
+  -- A turn goes on ahead,
+  pub turn-ahead : now .progress .at < length bytes → now .progress .at < turnAt bytes now .progress .at
+  unfolding turnAt
+  turn-ahead more =
+      let found : Found = readAt bytes (now .progress .at) in
+      omega (arith, found-on found .there, span-ahead bytes (now .progress .at) (length bytes) (spanOf (length bytes) found) refl more)
+
+  -- and leaves the table memory as long as it was.
+  pub turn-long : length (turnAt bytes now .notes .tables) ≡ length (now .notes .tables)
+  unfolding turnAt
+  turn-long = found-on (readAt bytes (now .progress .at)) .long

@@ -1,0 +1,5 @@
+pub mod Progress
+pub mod Entries
+pub mod Turns
+pub mod Survey
+pub mod Meant
