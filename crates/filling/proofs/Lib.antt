@@ -1,0 +1,9 @@
+pub mod Stretches
+pub mod Noting
+pub mod Turning
+pub mod Leading
+pub mod Given
+pub mod Held
+pub mod Numbered
+pub mod Going
+pub mod Filled

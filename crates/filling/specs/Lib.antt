@@ -1,0 +1,4 @@
+pub mod Keywords
+pub mod Onward
+pub mod Turns
+pub mod Filled

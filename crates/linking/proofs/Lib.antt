@@ -1,0 +1,5 @@
+pub mod Turns
+pub mod Linked
+pub mod Filled
+pub mod Downward
+pub mod Pieces

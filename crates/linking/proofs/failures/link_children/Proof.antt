@@ -1,0 +1,81 @@
+-- `link_children` meets its contract: before each turn the children with smaller numbers have their failures.
+-- Assumes nothing.
+use mathlib.Core.Path.{_≡_, refl}
+use Prim.Native.Nat.{_-_, _≤_}
+use borrow.Author.Needs.{needs}
+use native.Mathlib.Omega.{arith}
+use lib.ListN.{length}
+use Rattle.linking.specs.Failures.{withFailures}
+use Rattle.linking.proofs.Turns.{children-start, children-further, children-done}
+use Rattle.linking.proofs.failures.link_children.Statement.{statement}
+use Rattle.linking.proofs.failures.link_children.Tie as tie
+
+abbrev Inv-loop : tie.InvT-loop
+Inv-loop t₀ states parent end child₀ t child =
+    (child₀ ≤ child) × (child - child₀ ≤ end - child₀) × (t ≡ withFailures t₀ states (parent .0) child₀ (child - child₀)) × (length t ≡ length t₀)
+
+abbrev μ-loop : tie.MeasureT-loop
+μ-loop t₀ states parent end child₀ t child = end - child
+
+children-end-requires : tie.Need-children-end-requires Inv-loop μ-loop
+children-end-requires c κs = omega arith
+
+first-child-requires : tie.Need-first-child-requires Inv-loop μ-loop
+first-child-requires c κs = omega arith
+
+loop-holds : tie.Need-loop-holds Inv-loop μ-loop
+loop-holds c =
+    let a = c .before .before .before .before .before .args in
+    (omega arith, omega arith, children-start (a .t .now) (a .states) (a .parent .0) (c .first-child .result), refl)
+
+cast-numbered : tie.Need-cast-numbered Inv-loop μ-loop
+cast-numbered c = omega arith
+
+numbered-requires : tie.Need-numbered-requires Inv-loop μ-loop
+numbered-requires c κs = search needs
+
+link-child-requires : tie.Need-link-child-requires Inv-loop μ-loop
+link-child-requires c κs = omega arith
+
+add-child : tie.Need-add-child Inv-loop μ-loop
+add-child c = omega arith
+
+loop-less : tie.Need-loop-less Inv-loop μ-loop
+loop-less c = omega arith
+
+loop-again : tie.Need-loop-again Inv-loop μ-loop
+loop-again c =
+    let at = c .before .before .before .before .before .before in
+    let a = at .before .before .before .before .before .before .args in
+    let further = children-further (a .t .now) (a .states) (a .parent .0) (at .before .first-child .result) (at .loop .child) (c .before .before .before .numbered .result .0) (at .loop .t) _ (omega arith)
+    (c .before .before .before .numbered .ensures) (at .loop .inv .2) (c .before .before .link-child .ensures) in
+    (omega arith, omega arith, further, omega arith)
+
+same-length : tie.Need-same-length Inv-loop μ-loop
+same-length c = omega arith
+
+returns : tie.Need-returns Inv-loop μ-loop
+returns c =
+    let at = c .before in
+    let a = at .before .before .before .before .before .before .args in
+    let first = at .before .first-child in
+    let end = at .before .before .before .children-end in
+    children-done (a .t .now) (a .states) (a .parent .0) (first .result) (at .loop .child) (end .result) (at .loop .t) (first .ensures .0) (end .ensures) (omega arith) (at .loop .inv .2)
+
+pub link-children-spec : {M : Type 1} → statement M
+link-children-spec =
+    tie.close
+    (tie.spec
+    Inv-loop
+    μ-loop
+    children-end-requires
+    first-child-requires
+    loop-holds
+    cast-numbered
+    numbered-requires
+    link-child-requires
+    add-child
+    loop-less
+    loop-again
+    same-length
+    returns)
