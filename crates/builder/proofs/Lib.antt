@@ -1,0 +1,13 @@
+pub mod Cleared
+pub mod Regions
+pub mod Given
+pub mod States
+pub mod Headed
+pub mod Elsewhere
+pub mod Reread
+pub mod Laid
+pub mod Filled
+pub mod Right
+pub mod Ways
+pub mod Once
+pub mod Passed

@@ -1,0 +1,4 @@
+pub mod Answers
+pub mod Cleared
+pub mod Passes
+pub mod Build
