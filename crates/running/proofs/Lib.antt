@@ -1,0 +1,10 @@
+pub mod Places
+pub mod Closing
+pub mod Opening
+pub mod Below
+pub mod Entries
+pub mod Kept
+pub mod Marks
+pub mod Begin
+pub mod Bits
+pub mod Held
