@@ -1,0 +1,5 @@
+pub mod Places
+pub mod Midway
+pub mod Starting
+pub mod Head
+pub mod Reports

@@ -1,0 +1,45 @@
+-- The first pieces wait one after the other; those that are no first pieces change nothing.
+-- Assumes nothing.
+use mathlib.Core.Path.{_≡_, refl, _∙_}
+use mathlib.Core.Bool.{Bool, true, false, cond}
+use mathlib.Core.List.{List}
+use Prim.Native.Nat.{ℕ, zero, suc, _+_}
+use native.Mathlib.Numerals.{add-one}
+use lib.ListN.{length}
+use Rattle.lent.specs.Zeros.{withZeros}
+use Rattle.lent.proofs.Zeros.{length-zeros}
+use Rattle.tables.specs.Reads.{pieceCountIn, firstIn}
+use Rattle.running.specs.Layout.{runningSize}
+use Rattle.window.specs.Waiting.{withWaitingFrom}
+use Rattle.window.specs.Begun.{waitingIfFirst, firstsWaiting, windowsBegun}
+use Rattle.window.proofs.Waiting.{length-waiting-from}
+
+module _ (t m : List ℕ) (p : ℕ) where
+  pub first-waits : firstIn t p ≡ true → waitingIfFirst t m p ≡ withWaitingFrom t m p 0
+  unfolding waitingIfFirst
+  first-waits e = rw e
+
+  pub other-waits-not : firstIn t p ≡ false → waitingIfFirst t m p ≡ m
+  unfolding waitingIfFirst
+  other-waits-not e = rw e
+
+  pub length-first : length (waitingIfFirst t m p) ≡ length m
+  unfolding waitingIfFirst
+  length-first = go (firstIn t p)
+    where
+      go : (v : Bool) → length (cond v (withWaitingFrom t m p 0) m) ≡ length m
+      go true = length-waiting-from t m p 0
+      go false = refl
+
+  pub firsts-more : firstsWaiting t m (p + 1) ≡ waitingIfFirst t (firstsWaiting t m p) p
+  unfolding firstsWaiting
+  firsts-more = rw add-one
+
+pub length-firsts : (t m : List ℕ) (n : ℕ) → length (firstsWaiting t m n) ≡ length m
+unfolding firstsWaiting
+length-firsts t m zero = refl
+length-firsts t m (suc p) = length-first t (firstsWaiting t m p) p ∙ length-firsts t m p
+
+pub length-begun : (t m : List ℕ) → length (windowsBegun t m) ≡ length m
+unfolding windowsBegun
+length-begun t m = length-firsts t (withZeros m 0 runningSize) (pieceCountIn t) ∙ length-zeros m 0 runningSize

@@ -1,0 +1,55 @@
+-- What opens at a place: the closing place of each piece that waits there is renewed, and nothing waits there any more.
+-- Assumes nothing: these are definitions.
+use mathlib.Core.Bool.{Bool, cond}
+use mathlib.Core.List.{List}
+use Prim.Native.Nat.{ℕ, zero, suc, _+_, _*_}
+use lib.Dec.{eqb}
+use lib.ListN.{set}
+use Rattle.counters.specs.Counters.{placeOf}
+use Rattle.lent.specs.Numbers.{withNumber}
+use Rattle.lent.specs.Zeros.{withZeros}
+use Rattle.tables.specs.Layout.{roomForPieces}
+use Rattle.tables.specs.Reads.{spanIn}
+use Rattle.running.specs.Waiting.{never}
+use Rattle.running.specs.Layout.{flagAt, closingAt, slotLength}
+use Rattle.running.specs.Reads.{flagIn, slotAt, waitsIn}
+use Rattle.window.specs.Waiting.{slotOf}
+use Rattle.window.specs.declared.opens.Window.{Window}
+
+-- The span of an open gap: its window never closes.
+abbrev pub openSpan : ℕ
+openSpan = 65535
+
+-- The closing place of a window that opens at a place: a span later, or never.
+unfoldable pub closesAfter : ℕ → ℕ → ℕ
+closesAfter span opened = cond (eqb span openSpan) never (opened + span)
+
+-- A piece's window once one opens at a place: its closing place is replaced by the later one.
+unfoldable pub renewedAt : Window → ℕ → ℕ → Window
+renewedAt window span opened = record { closes = placeOf (closesAfter span opened) }
+
+-- The memory with a closing place for piece p.
+unfoldable pub withClosing : List ℕ → ℕ → ℕ → List ℕ
+withClosing m p closes = withNumber 8 m (closingAt + 8 * p) closes
+
+-- The memory once a window of piece p opens at a place.
+unfoldable pub windowOpened : List ℕ → ℕ → List ℕ → ℕ → List ℕ
+windowOpened t place m p = withClosing m p (closesAfter (spanIn t p) place)
+
+-- The memory once a window opens of each piece below n of which a test holds.
+unfoldable pub windowsOpened : List ℕ → ℕ → (ℕ → Bool) → List ℕ → ℕ → List ℕ
+windowsOpened t place test m zero = m
+windowsOpened t place test m (suc p) =
+    let before : List ℕ = windowsOpened t place test m p in
+    cond (test p) (windowOpened t place before p) before
+
+-- The memory with slot q empty: no piece has its bit there, and the slot has no flag.
+unfoldable pub slotEmptied : List ℕ → ℕ → List ℕ
+slotEmptied m q = set (withZeros m (slotAt q) slotLength) (flagAt + q) 0
+
+-- The memory once the windows that wait in the slot of a place have opened there. A slot without its flag has no bit, so
+-- nothing opens.
+unfoldable pub slotOpened : List ℕ → List ℕ → ℕ → List ℕ
+slotOpened t m place =
+    let q : ℕ = slotOf place in
+    cond (eqb (flagIn m q) 0) m (slotEmptied (windowsOpened t place (waitsIn m q) m roomForPieces) q)

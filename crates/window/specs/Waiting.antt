@@ -1,0 +1,26 @@
+-- A window that has not opened yet waits its turn, in the slot of the place at which it opens. Assumes nothing: these are definitions.
+use mathlib.Core.List.{List}
+use Prim.Native.Nat.{ℕ, _+_, _%_}
+use lib.ListN.{getD, set}
+use Rattle.bits.specs.Bits.{setBit}
+use Rattle.tables.specs.Reads.{delayIn}
+use Rattle.running.specs.Waiting.{slots}
+use Rattle.running.specs.Layout.{flagAt}
+use Rattle.running.specs.Reads.{bitAt}
+
+-- The slot of a place.
+abbrev pub slotOf : ℕ → ℕ
+slotOf place = place % slots
+
+-- The flag of a slot that has a bit.
+abbrev pub flagged : ℕ
+flagged = 128
+
+-- The memory with piece p waiting in slot q: its bit is set there, and so is the slot's flag.
+unfoldable pub withWaiting : List ℕ → ℕ → ℕ → List ℕ
+withWaiting m q p = set (set m (bitAt q p) (setBit (getD m (bitAt q p) 0) (p % 8))) (flagAt + q) flagged
+
+-- The memory with piece p waiting from a place at which the piece before it ended (0 for a first piece): the window opens a
+-- delay later.
+unfoldable pub withWaitingFrom : List ℕ → List ℕ → ℕ → ℕ → List ℕ
+withWaitingFrom t m p place = withWaiting m (slotOf (place + delayIn t p)) p
