@@ -1,0 +1,5 @@
+pub mod Steps
+pub mod Turns
+pub mod Reports
+pub mod Right
+pub mod Rule

@@ -1,0 +1,4 @@
+pub mod Taken
+pub mod Ready
+pub mod Rule
+pub mod Right

@@ -1,0 +1,87 @@
+-- Begin and feed, case by case in the order of the refusals.
+-- Assumes nothing.
+use mathlib.Core.Path.{_≡_}
+use mathlib.Core.Bool.{true, false}
+use mathlib.Core.List.{List}
+use Prim.Native.Nat.{ℕ, _+_, _-_, _/_, _≤_, _<_}
+use native.Mathlib.Omega.{arith}
+use lib.ListN.{length}
+use borrow.Author.Tests.{lt-ltb, le-ltb}
+use Rattle.tables.specs.Reads.{phraseCountIn}
+use Rattle.tables.specs.Passing.{tablesPass}
+use Rattle.tables.proofs.Passing as tables
+use Rattle.tracking.specs.Head.{begunWith}
+use Rattle.feeding.specs.declared.Progress.{Progress}
+use Rattle.feeding.specs.Taken.{atStart, runOf, partTaken}
+use Rattle.feeding.specs.Ready.{Ready}
+use Rattle.scanner.specs.Passing.{largestPlace, stateHeld, placeHeld, tooSmall, runningPass}
+use Rattle.scanner.specs.Exact.{BeginEnd, begunWell, beginOf, FeedEnd, answerAfter, memoryAfter, tookFrom, feedOf}
+use Rattle.scanner.specs.declared.Begun.the-variants as begun
+use Rattle.scanner.specs.declared.Fed.the-variants as fed
+use Rattle.scanner.proofs.Passing.{whole, passed}
+
+module _ (t m : List ℕ) where
+  pub begin-small : tooSmall t m ≡ true → beginOf t m ≡ record { answer = begun.TooSmall; memory = m }
+  unfolding beginOf
+  begin-small e = rw e
+
+  pub begin-not-tables : tooSmall t m ≡ false → tablesPass t ≡ false → beginOf t m ≡ record { answer = begun.NotTables; memory = m }
+  unfolding beginOf
+  begin-not-tables e p = rw (e, p)
+
+  pub begin-done : tooSmall t m ≡ false → tablesPass t ≡ true → beginOf t m ≡ begunWell (begunWith t m)
+  unfolding beginOf
+  begin-done e p = rw (e, p)
+
+-- What the code carries along, written down, is what was taken.
+pub took-from : (t m part room : List ℕ) (state place : ℕ) (progress : Progress) (m₁ room₁ m₂ : List ℕ)
+    → runOf progress m₁ room₁ ≡ partTaken t (length room / 2) part (atStart state place m room)
+    → m₂ ≡ memoryAfter (runOf progress m₁ room₁) state place
+    → record { answer = answerAfter (runOf progress m₁ room₁); memory = m₂; room = room₁ } ≡ tookFrom t m part room state place
+unfolding tookFrom
+took-from t m part room state place progress m₁ room₁ m₂ run moved = rw (← run, moved)
+
+module _ (t m part room : List ℕ) where
+  pub feed-small : tooSmall t m ≡ true → feedOf t m part room ≡ record { answer = fed.TooSmall; memory = m; room = room }
+  unfolding feedOf
+  feed-small e = rw e
+
+  module _ (large : tooSmall t m ≡ false) where
+    pub feed-not-tables : tablesPass t ≡ false → feedOf t m part room ≡ record { answer = fed.NotTables; memory = m; room = room }
+    unfolding feedOf
+    feed-not-tables p = rw (large, p)
+
+    module _ (tables-pass : tablesPass t ≡ true) where
+      pub feed-not-running : runningPass t m ≡ false → feedOf t m part room ≡ record { answer = fed.NotTables; memory = m; room = room }
+      unfolding feedOf
+      feed-not-running q = rw (large, tables-pass, q)
+
+      module _ (running-pass : runningPass t m ≡ true) where
+        pub feed-no-room : length room / 2 < phraseCountIn t → feedOf t m part room ≡ record { answer = fed.NoRoom; memory = m; room = room }
+        unfolding feedOf
+        feed-no-room h = rw (large, tables-pass, running-pass, lt-ltb (length room / 2) (phraseCountIn t) h)
+
+        module _ (roomy : phraseCountIn t ≤ length room / 2) where
+          pub feed-too-long : largestPlace - placeHeld m < length part → feedOf t m part room ≡ record { answer = fed.TooLong; memory = m; room = room }
+          unfolding feedOf
+          feed-too-long h = rw (large, tables-pass, running-pass, le-ltb (length room / 2) (phraseCountIn t) roomy, lt-ltb (largestPlace - placeHeld m) (length part) h)
+
+          module _ (short : length part ≤ largestPlace - placeHeld m) where
+            pub feed-takes : feedOf t m part room ≡ tookFrom t m part room (stateHeld m) (placeHeld m)
+            unfolding feedOf
+            feed-takes = rw (large, tables-pass, running-pass, le-ltb (length room / 2) (phraseCountIn t) roomy, le-ltb (largestPlace - placeHeld m) (length part) short)
+
+            -- Then all holds that the taking of bytes wants.
+            pub feed-ready : (state place : ℕ) → state ≡ stateHeld m → place ≡ placeHeld m → Ready t m (length part) state place
+            feed-ready state place p q =
+                let sized = whole t m large in
+                let head = passed t m running-pass in
+                let counts = tables.pass-iff t .0 tables-pass in
+                record {
+                  tables = sized .0;
+                  memory = sized .1;
+                  states = counts .states .1;
+                  phrases = counts .phrases .1;
+                  inside = rw p (head .state);
+                  early = omega (arith, head .place);
+                }

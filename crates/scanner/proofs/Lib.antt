@@ -1,0 +1,9 @@
+pub mod Passing
+pub mod Cases
+pub mod Rule
+pub mod Begins
+pub mod Feeds
+pub mod Letters
+pub mod Kept
+pub mod Zeroed
+pub mod Once
