@@ -18,16 +18,14 @@ use Rattle.meaning.specs.Automaton.{isState, after, stepsFor}
 use Rattle.meaning.specs.Calls.{reportsAfter, stepsAfter, takes}
 use Rattle.format.specs.Limits.{Within}
 use Rattle.numbering.specs.States.{numberIn}
-use Rattle.numbering.specs.Walks.{Landed}
 use Rattle.tables.specs.Regions.{Laid}
 use Rattle.tables.specs.Layout.{tablesLayout}
 use Rattle.tables.specs.Reads.{stateCountIn, phraseCountIn}
 use Rattle.tables.proofs.Fields.{state-count-laid, phrase-count-laid}
-use Rattle.running.specs.Held.{Windows}
 use Rattle.stepping.specs.Steps.{nextIn}
 use Rattle.stepping.proofs.Laid.{next-after}
 use Rattle.marks.specs.Reported.{Reports}
-use Rattle.window.specs.Happened.{Here, endedAt, happened}
+use Rattle.window.specs.Happened.{happened}
 use Rattle.window.proofs.Happened.{happened-long, happened-few}
 use Rattle.tracking.specs.Places.{Elsewhere}
 use Rattle.tracking.specs.Reports.{withThese}

@@ -1,7 +1,6 @@
 -- A step leads to a state of the tables and takes fewer failures than there are states, whatever the bytes of the tables are: children are
 -- looked for among the states alone, and failures fall.
 -- Assumes nothing.
-use mathlib.Core.Path.{_≡_, refl}
 use mathlib.Core.Bool.{Bool, true, false, cond}
 use mathlib.Core.List.{List}
 use Prim.Native.Nat.{ℕ, zero, suc, _+_, _-_, _≤_, _<_}

@@ -2,7 +2,7 @@
 -- Assumes nothing.
 use mathlib.Core.Path.{_≡_, refl, sym, ap, _∙_}
 use mathlib.Core.List.{List, [], _∷_}
-use Prim.Native.Nat.{ℕ, suc, _+_, _-_, _*_, _≤_, _<_}
+use Prim.Native.Nat.{ℕ, suc, _+_, _*_, _≤_, _<_}
 use native.Mathlib.Numerals.{add-one}
 use native.Mathlib.Omega.{arith}
 use lib.ListN.{length, getD, drop}
@@ -14,14 +14,13 @@ use Rattle.tables.specs.Reads.{stateCountIn, phraseCountIn}
 use Rattle.stepping.specs.Steps.{nextIn}
 use Rattle.window.specs.Happened.{Here, happened}
 use Rattle.window.proofs.Happened.{happened-long, happened-room, happened-few}
-use Rattle.feeding.specs.Taken.{Run, atStart, byteTaken, freeAfter, partTaken}
-use Rattle.feeding.specs.Ready.{Ready}
+use Rattle.feeding.specs.Taken.{Run, atStart, stepsWith, byteTaken, freeAfter, partTaken}
 use Rattle.feeding.proofs.Steps.{next-inside, next-few}
 
 -- One byte, put together from the step and from what happens.
 pub byte-taken : (t : List ℕ) (run : Run) (byte : ℕ) (landed : Landed) (place : ℕ) (here : Here)
     → landed ≡ nextIn t (stateCountIn t) (run .state) byte → place ≡ run .place + 1 → here ≡ happened t (landed .at) place (run .here)
-    → record { state = landed .at; place = place; taken = run .taken + 1; steps = run .steps + landed .taken; here = here } ≡ byteTaken t run byte
+    → record { state = landed .at; place = place; taken = run .taken + 1; steps = stepsWith (run .steps) landed; here = here } ≡ byteTaken t run byte
 unfolding byteTaken
 byte-taken t run byte landed place here step there what = rw (what, there, step)
 

@@ -37,6 +37,10 @@ atStart state place memory room = record {
   here = record { reports = record { written = 0; room = room }; memory = memory };
 }
 
+-- The failure steps of a byte are added to those before it.
+abbrev pub stepsWith : ℕ → Landed → ℕ
+stepsWith steps landed = steps + landed .taken
+
 -- One byte: it leads to the next state, and at the next place happens what the state says.
 unfoldable pub byteTaken : List ℕ → Run → ℕ → Run
 byteTaken t run byte =
@@ -45,7 +49,7 @@ byteTaken t run byte =
       state = landed .at;
       place = run .place + 1;
       taken = run .taken + 1;
-      steps = run .steps + landed .taken;
+      steps = stepsWith (run .steps) landed;
       here = happened t (landed .at) (run .place + 1) (run .here);
     }
 

@@ -3,17 +3,14 @@
 -- Assumes nothing.
 use mathlib.Core.Path.{_≡_, refl, _∙_}
 use mathlib.Core.Logic.{inr}
-use mathlib.Core.Bool.{true, false}
-use mathlib.Core.List.{List, []}
-use Prim.Native.Nat.{ℕ, _≤_, _<_}
+use mathlib.Core.List.{List}
+use Prim.Native.Nat.{ℕ, _≤_}
 use native.Mathlib.Omega.{arith}
-use lib.ListN.{length, getD}
+use lib.ListN.{length}
 use Rattle.lent.specs.Numbers.{Bytes, withNumber}
 use Rattle.lent.proofs.Numbers.{length-withNumber, number-byte-apart, number-bytes-kept}
 use Rattle.meaning.specs.Books.{Book}
-use Rattle.tables.specs.Layout.{tablesSize}
 use Rattle.tables.specs.Reads.{markIn}
-use Rattle.tables.specs.Passing.{tablesPass}
 use Rattle.tables.proofs.Passing.{laid-pass}
 use Rattle.running.specs.Layout.{runningSize, tagAt, markAt, runningTag}
 use Rattle.running.specs.Reads.{WholeRunning}
@@ -23,10 +20,9 @@ use Rattle.tracking.specs.Head.{begunWith}
 use Rattle.tracking.proofs.Begin.{past-begin, bytes-begin}
 use Rattle.tracking.proofs.Head.{laid-begin}
 use Rattle.scanner.specs.Answers.{begunNumber}
-use Rattle.scanner.specs.Passing.{tooSmall}
 use Rattle.scanner.specs.Exact.{BeginEnd, beginOf}
-use Rattle.scanner.specs.Meant.{TablesOf, RunningOf, PastKept, BeginDone}
-use Rattle.scanner.specs.Promised.{Small, BeginRefused, BeginPromise}
+use Rattle.scanner.specs.Meant.{TablesOf, PastKept, BeginDone}
+use Rattle.scanner.specs.Promised.{BeginPromise}
 use Rattle.scanner.proofs.Passing.{small, large}
 use Rattle.scanner.proofs.Cases.{begin-small, begin-not-tables, begin-done}
 

@@ -3,7 +3,7 @@
 use mathlib.Core.Path.{_≡_}
 use mathlib.Core.Bool.{true, false}
 use mathlib.Core.List.{List}
-use Prim.Native.Nat.{ℕ, _+_, _-_, _/_, _≤_, _<_}
+use Prim.Native.Nat.{ℕ, _-_, _/_, _≤_, _<_}
 use native.Mathlib.Omega.{arith}
 use lib.ListN.{length}
 use borrow.Author.Tests.{lt-ltb, le-ltb}
@@ -15,7 +15,7 @@ use Rattle.feeding.specs.declared.Progress.{Progress}
 use Rattle.feeding.specs.Taken.{atStart, runOf, partTaken}
 use Rattle.feeding.specs.Ready.{Ready}
 use Rattle.scanner.specs.Passing.{largestPlace, stateHeld, placeHeld, tooSmall, runningPass}
-use Rattle.scanner.specs.Exact.{BeginEnd, begunWell, beginOf, FeedEnd, answerAfter, memoryAfter, tookFrom, feedOf}
+use Rattle.scanner.specs.Exact.{begunWell, beginOf, answerAfter, memoryAfter, tookFrom, feedOf}
 use Rattle.scanner.specs.declared.Begun.the-variants as begun
 use Rattle.scanner.specs.declared.Fed.the-variants as fed
 use Rattle.scanner.proofs.Passing.{whole, passed}

@@ -2,21 +2,20 @@
 -- taken right, and state and place are written.
 -- Assumes nothing.
 use mathlib.Core.Path.{_≡_, refl, sym, ap, ap₂, _∙_}
-use mathlib.Core.Logic.{_⊎_, inl, inr, ⊎-elim}
+use mathlib.Core.Logic.{_⊎_, inl, inr}
 use mathlib.Core.Bool.{Bool, true, false, So}
-use mathlib.Core.List.{List, [], _++_}
-use Prim.Native.Nat.{ℕ, _+_, _-_, _*_, _/_, _≤_, _<_}
+use mathlib.Core.List.{List, _++_}
+use Prim.Native.Nat.{ℕ, _+_, _-_, _/_, _≤_, _<_}
 use native.Mathlib.Omega.{arith}
 use lib.ListN.{length, take, getD, length-append, length-take}
-use Rattle.lent.specs.Numbers.{Bytes, withNumber, withBytes}
+use Rattle.lent.specs.Numbers.{Bytes, withNumber}
 use Rattle.lent.proofs.Numbers.{length-withNumber, number-byte-apart, number-bytes-kept}
 use Rattle.meaning.specs.Books.{Book}
 use Rattle.meaning.specs.Automaton.{isState, after}
-use Rattle.meaning.specs.Calls.{reportsAfter, stepsAfter, takes, fed}
+use Rattle.meaning.specs.Calls.{takes, fed}
 use Rattle.meaning.proofs.States.{isState-closed}
 use Rattle.meaning.proofs.After.{after-state}
-use Rattle.meaning.proofs.Taking.{takes-is}
-use Rattle.numbering.specs.States.{numberIn, stateCount}
+use Rattle.numbering.specs.States.{numberIn}
 use Rattle.numbering.proofs.Keywords.{within-bytes}
 use Rattle.numbering.proofs.States.{number-below}
 use Rattle.tables.specs.Layout.{tablesSize}
@@ -30,16 +29,16 @@ use Rattle.running.specs.Held.{Held}
 use Rattle.running.proofs.Held.{laid-held}
 use Rattle.marks.specs.Reported.{Reports}
 use Rattle.tracking.specs.Head.{movedTo}
-use Rattle.tracking.specs.Reports.{inRoom, withThese}
+use Rattle.tracking.specs.Reports.{withThese}
 use Rattle.tracking.proofs.Head.{laid-moved}
 use Rattle.feeding.specs.Taken.{Run, atStart, partTaken}
 use Rattle.feeding.specs.Right.{Stands, Came}
 use Rattle.feeding.proofs.Right.{part-right}
 use Rattle.scanner.specs.Answers.{Said, said}
-use Rattle.scanner.specs.Passing.{largestPlace, stateHeld, placeHeld, tooSmall, RunningPass, runningPass}
+use Rattle.scanner.specs.Passing.{largestPlace, tooSmall, runningPass}
 use Rattle.scanner.specs.Exact.{FeedEnd, memoryAfter, tookFrom, feedOf}
-use Rattle.scanner.specs.Meant.{TablesOf, RunningOf, PastKept, FeedRefused, FeedDone, FeedRight}
-use Rattle.scanner.specs.Promised.{Small, FeedPromise}
+use Rattle.scanner.specs.Meant.{TablesOf, RunningOf, PastKept, FeedDone, FeedRight}
+use Rattle.scanner.specs.Promised.{FeedPromise}
 use Rattle.scanner.specs.declared.Fed.the-variants as answers
 use Rattle.scanner.proofs.Passing.{small, large, passes}
 use Rattle.scanner.proofs.Rule.{rule-feed}
@@ -127,26 +126,29 @@ module _ (book : Book) (x t m : List ℕ) (tables : TablesOf book t) (running : 
     read-early : length read ≤ largestPlace
     read-early = rw (length-append, length-take) (omega arith)
 
-    taken-few : length (take count part) ≡ count
-    taken-few = rw length-take (omega (arith, takes-is book x part free .offered))
+    -- The state and the place that are written are those of the bytes read.
+    abbrev reached : ℕ
+    reached = numberIn book (after (isState book) read)
+
+    memory-written : memoryAfter end state (length x) ≡ movedTo (end .here .memory) reached (length read)
+    memory-written = ap₂ (movedTo (end .here .memory)) (came .stands .state) (came .stands .place)
 
     memory-right : RunningOf book read (memoryAfter end state (length x))
     memory-right =
         let right = came .stands in
-        record {
+        rw memory-written (record {
           early = read-early;
-          long = rw (length-moved (end .here .memory) (end .state) (end .place), came .long) (running .long);
-          laid = rw (right .state, right .place)
-              (laid-moved book (tables .limits) x read m (end .here .memory) (right .whole) (right .bytes) (omega (arith, read-early)) (running .laid)
-              (λ i below. came .elsewhere i (inl below)) (right .windows));
-          bytes = moved-bytes (end .here .memory) (end .state) (end .place) (right .bytes);
-        }
+          long = rw (length-moved (end .here .memory) reached (length read), came .long) (running .long);
+          laid = laid-moved book (tables .limits) x read m (end .here .memory) (right .whole) (right .bytes) (omega (arith, read-early)) (running .laid)
+              (λ i below. came .elsewhere i (inl below)) (right .windows);
+          bytes = moved-bytes (end .here .memory) reached (length read) (right .bytes);
+        })
 
     memory-past : PastKept m (memoryAfter end state (length x))
     unfolding runningSize
-    memory-past = (
-      length-moved (end .here .memory) (end .state) (end .place) ∙ came .long,
-      λ i above. moved-apart (end .here .memory) (end .state) (end .place) i (omega arith) ∙ came .elsewhere i (inr above),
+    memory-past = rw memory-written (
+      length-moved (end .here .memory) reached (length read) ∙ came .long,
+      λ i above. moved-apart (end .here .memory) reached (length read) i (omega arith) ∙ came .elsewhere i (inr above),
     )
 
     said-right : said (tookFrom t m part room state (length x) .answer) ≡ record {

@@ -1,17 +1,17 @@
 -- Test 12 over begin and feed, for any tables that begin accepted: windows never touch the head, so that the tag and the mark stay, and every
 -- step leads to a state of the tables.
 -- Assumes nothing.
-use mathlib.Core.Path.{_≡_, refl, sym, ap, _∙_}
-use mathlib.Core.Logic.{_⊎_, inl, inr, ⊎-elim}
+use mathlib.Core.Path.{_≡_, refl, _∙_}
+use mathlib.Core.Logic.{inl, inr, ⊎-elim}
 use mathlib.Core.Bool.{Bool, true, false, So, cond}
 use mathlib.Core.List.{List, [], _∷_}
-use Prim.Native.Nat.{ℕ, zero, suc, _+_, _-_, _*_, _/_, _%_, _^_, _≤_, _<_}
+use Prim.Native.Nat.{ℕ, zero, suc, _+_, _-_, _/_, _%_, _≤_, _<_}
 use native.Mathlib.Omega.{arith}
 use lib.Dec.{ltb, lit<}
 use lib.ListN.{length, getD}
 use Rattle.lent.specs.Numbers.{Bytes, numberAt, withNumber}
 use Rattle.lent.proofs.Numbers.{length-withNumber, number-written, number-apart, number-below, number-agree}
-use Rattle.tables.specs.Layout.{roomForPieces, roomForStates}
+use Rattle.tables.specs.Layout.{roomForPieces}
 use Rattle.tables.specs.Layout as tables
 use Rattle.tables.specs.Reads.{pieceCountIn, stateCountIn, phraseCountIn, markIn, rankIn, lastIn, firstIn, delayIn}
 use Rattle.tables.specs.Passing.{tablesPass}
@@ -21,7 +21,7 @@ use Rattle.running.specs.Layout.{runningSize, tagAt, stateAt, placeAt, markAt, 
 use Rattle.running.specs.Reads.{WholeRunning, closingPlaceIn}
 use Rattle.marks.specs.Marked.{noMarks, withMark}
 use Rattle.stepping.specs.Steps.{nextIn}
-use Rattle.window.specs.Waiting.{slotOf, withWaiting, withWaitingFrom}
+use Rattle.window.specs.Waiting.{slotOf, withWaitingFrom}
 use Rattle.lent.specs.Zeros.{withZeros}
 use Rattle.window.specs.Opening.{slotOpened}
 use Rattle.window.specs.Begun.{waitingIfFirst, firstsWaiting, windowsBegun}
@@ -39,9 +39,9 @@ use Rattle.tracking.proofs.Slots.{byte-slot}
 use Rattle.feeding.specs.Taken.{Run, atStart, byteTaken, partTaken}
 use Rattle.feeding.specs.Ready.{Ready}
 use Rattle.feeding.proofs.Steps.{next-inside}
-use Rattle.scanner.specs.Answers.{begunNumber, said}
-use Rattle.scanner.specs.Passing.{largestPlace, tagHeld, stateHeld, placeHeld, markHeld, tooSmall, RunningPass, runningPass}
-use Rattle.scanner.specs.Exact.{BeginEnd, beginOf, FeedEnd, tookFrom, feedOf}
+use Rattle.scanner.specs.Answers.{begunNumber}
+use Rattle.scanner.specs.Passing.{stateHeld, placeHeld, tooSmall, RunningPass, runningPass}
+use Rattle.scanner.specs.Exact.{beginOf, tookFrom, feedOf}
 use Rattle.scanner.proofs.Passing.{sizes, whole, passes, passed}
 use Rattle.scanner.proofs.Cases.{begin-small, begin-not-tables, begin-done}
 use Rattle.scanner.proofs.Rule.{Refused, Taking, feed-cases}
@@ -72,9 +72,6 @@ module _ (t : List ℕ) (i : ℕ) (there : Elsewhere i) where
   unfolding pieceEnded
   piece-elsewhere place ended p sized = go (ltb (closingPlaceIn (ended .memory) p) place) (lastIn t p)
     where
-      next : ℕ
-      next = (p + 1) % roomForPieces
-
       after : Bool → Bool → Ended
       after v w = cond v ended
           (cond w (record { marks = withMark (ended .marks) (rankIn t p); memory = ended .memory })
@@ -151,14 +148,8 @@ part-keeps t room (a ∷ part) run inside sized =
 -- ── Begin ──
 
 module _ (t m : List ℕ) (bytes : Bytes t) (is-large : tooSmall t m ≡ false) (pass : tablesPass t ≡ true) where
-  begun : List ℕ
-  begun = windowsBegun t m
-
-  marked : List ℕ
-  marked = withNumber 8 begun markAt (markIn t)
-
-  head-zero : (i : ℕ) → i < flagAt → getD begun i 0 ≡ 0
-  unfolding begun windowsBegun runningSize
+  head-zero : (i : ℕ) → i < flagAt → getD (windowsBegun t m) i 0 ≡ 0
+  unfolding windowsBegun runningSize
   head-zero i below =
       let sized : WholeRunning m = whole t m is-large .1 in
       firsts-elsewhere t i (inl below) (withZeros m 0 sizeNumber) (pieceCountIn t) (rw (length-zeros m 0 sizeNumber) sized) (passing.pass-iff t .0 pass .pieces .1)
@@ -166,7 +157,7 @@ module _ (t m : List ℕ) (bytes : Bytes t) (is-large : tooSmall t m ≡ false) 
 
   -- A number of the head that is not written is zero.
   unwritten : (width at : ℕ) → 8 ≤ at → at + width ≤ markAt → numberAt width (begunWith t m) at ≡ 0
-  unfolding begunWith begun marked
+  unfolding begunWith
   unwritten width at from to =
       number-apart width 8 (withNumber 8 (windowsBegun t m) markAt (markIn t)) tagAt runningTag at (inr (omega arith))
       ∙ number-apart width 8 (windowsBegun t m) markAt (markIn t) at (inl (omega arith))

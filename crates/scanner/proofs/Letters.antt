@@ -1,8 +1,8 @@
 -- A letter in any parts: each call adds the reports and steps of the bytes that it takes, a refused one none, and leaves the memory of all
 -- bytes taken for the next. So the parts come to what the letter comes to.
 -- Assumes nothing.
-use mathlib.Core.Path.{_≡_, refl, sym, ap, ap₂, subst, _∙_}
-use mathlib.Core.Logic.{_⊎_, inl, inr, ⊎-elim}
+use mathlib.Core.Path.{_≡_, refl, sym, ap, ap₂, _∙_}
+use mathlib.Core.Logic.{⊎-elim}
 use mathlib.Core.List.{List, [], _∷_, _++_, append-nil, append-assoc}
 use Prim.Native.Nat.{ℕ, zero, suc, _+_, _*_, _/_, _≤_, _<_}
 use native.Mathlib.Numerals.{add-one}
@@ -15,16 +15,16 @@ use Rattle.lent.proofs.Cases.{lt-or-le}
 use Rattle.meaning.specs.Books.{Book}
 use Rattle.meaning.specs.Reports.{Report, reports}
 use Rattle.meaning.specs.Automaton.{steps}
-use Rattle.meaning.specs.Calls.{reportsAfter, stepsAfter, takes, fed}
+use Rattle.meaning.specs.Calls.{reportsAfter, stepsAfter, fed}
 use Rattle.meaning.proofs.Cuts.{reports-cut, steps-cut, reportsAfter-cut, stepsAfter-cut}
 use Rattle.meaning.proofs.Depth.{steps-at-most}
 use Rattle.meaning.proofs.Taking.{takes-fits}
 use Rattle.running.specs.Layout.{runningSize}
 use Rattle.tracking.specs.Reports.{inRoom}
 use Rattle.feeding.proofs.Reports.{length-inRoom, inRoom-append}
-use Rattle.scanner.specs.Answers.{Said, refusal, said}
+use Rattle.scanner.specs.Answers.{Said, said}
 use Rattle.scanner.specs.Passing.{largestPlace}
-use Rattle.scanner.specs.Exact.{BeginEnd, beginOf, FeedEnd, feedOf}
+use Rattle.scanner.specs.Exact.{beginOf, FeedEnd, feedOf}
 use Rattle.scanner.specs.Meant.{TablesOf, RunningOf, FeedRefused, FeedDone, FeedRight}
 use Rattle.scanner.specs.Letters.{Call, Came, feedsOf, GoesOn, LetterRead}
 use Rattle.scanner.proofs.Begins.{begin-means}

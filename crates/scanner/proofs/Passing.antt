@@ -2,16 +2,16 @@
 -- statement beside it says.
 -- Assumes nothing.
 use mathlib.Core.Path.{_≡_, refl, sym, _∙_}
-use mathlib.Core.Logic.{_⊎_, inl, inr, ⊎-elim, _↔_}
-use mathlib.Core.Bool.{Bool, true, false, So, not, _&&_, _||_, and-eq-true-iff, false≢true}
+use mathlib.Core.Logic.{inl, inr, ⊎-elim, _↔_}
+use mathlib.Core.Bool.{Bool, true, false, So, not, _||_, and-eq-true-iff, false≢true}
 use mathlib.Core.List.{List}
 use Prim.Native.Nat.{ℕ, _≤_, _<_}
 use native.Mathlib.Omega.{arith}
-use lib.Dec.{ltb, leb, eqb}
+use lib.Dec.{ltb, eqb}
 use lib.ListN.{length, getD}
 use borrow.Author.Tests.{lt-ltb, le-ltb, le-leb, lt-leb, eq-eqb, ne-eqb, ltb-true, ltb-false, leb-true, eqb-true}
 use Rattle.lent.proofs.Cases.{lt-or-le}
-use Rattle.meaning.proofs.Truth.{both, untrue}
+use Rattle.meaning.proofs.Truth.{untrue}
 use Rattle.tables.specs.Layout.{tablesSize}
 use Rattle.tables.specs.Reads.{Whole, stateCountIn, markIn}
 use Rattle.tables.proofs.Parts.{number-zero}

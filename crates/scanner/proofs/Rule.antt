@@ -76,14 +76,7 @@ module _ (t m part room : List ℕ) where
       let run : Run = partTaken t (length room / 2) part start in
       let rule = rule-kept t (length room / 2) part start in
       let count : rule .0 ≡ run .taken = omega (arith, rule .1 .taken) in
-      record {
-        run = run;
-        takes = rw count at (rule .1);
-        reports = refl;
-        steps = refl;
-        room-after = refl;
-        memory-after = refl;
-      }
+      record { run = run; takes = rw count at (rule .1); reports = refl }
 
   pub rule-feed : said (feedOf t m part room .answer) .number ≡ 0 → FollowsRule t m part room (feedOf t m part room)
   rule-feed h = ⊎-elim (λ (r : Refused m room (feedOf t m part room)). absurd (r .number h)) (λ (k : Taking t m part room (feedOf t m part room)). rw (k .is) took-rule) feed-cases

@@ -11,7 +11,7 @@ use Rattle.tables.specs.Regions.{Laid}
 use Rattle.tables.specs.Layout.{tablesSize, tablesLayout}
 use Rattle.running.specs.Layout.{runningSize, runningLayout}
 use Rattle.tracking.specs.Reports.{inRoom}
-use Rattle.scanner.specs.Answers.{begunNumber, Said, refusal, said}
+use Rattle.scanner.specs.Answers.{begunNumber, refusal, said}
 use Rattle.scanner.specs.Passing.{largestPlace}
 use Rattle.scanner.specs.Exact.{BeginEnd, FeedEnd}
 

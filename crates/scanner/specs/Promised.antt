@@ -10,7 +10,6 @@ use Rattle.meaning.specs.Books.{Book}
 use Rattle.tables.specs.Layout.{tablesSize}
 use Rattle.tables.specs.Passing.{tablesPass}
 use Rattle.running.specs.Layout.{runningSize}
-use Rattle.tracking.specs.Head.{movedTo}
 use Rattle.feeding.specs.Taken.{Run, atStart}
 use Rattle.feeding.specs.Rule.{TookBytes}
 use Rattle.scanner.specs.Answers.{begunNumber, said}
@@ -37,15 +36,12 @@ pub record BeginPromise (t m : List ℕ) (end : BeginEnd) : Type 0 where
 
 -- ── Feed ──
 
--- The taking rule, for every call that is not refused, whatever the tables and the running memory are: so many bytes are taken as the rule
--- says, and what the call says, writes and keeps is what has come of them.
+-- The taking rule, for every call that is not refused, whatever the tables and the running memory are: the bytes that the call says it took are
+-- those of the rule, which counts the free room by the reports that the call says it wrote.
 pub record FollowsRule (t m part room : List ℕ) (end : FeedEnd) : Type 0 where
   pub run : Run
   pub takes : TookBytes t (length room / 2) part (atStart (stateHeld m) (placeHeld m) m room) run (said (end .answer) .taken)
-  pub reports : said (end .answer) .reports ≡ run .here .reports .written
-  pub steps : said (end .answer) .steps ≡ run .steps
-  pub room-after : end .room ≡ run .here .reports .room
-  pub memory-after : end .memory ≡ movedTo (run .here .memory) (run .state) (run .place)
+  pub reports : run .here .reports .written ≡ said (end .answer) .reports
 
 pub record FeedPromise (t m part room : List ℕ) (end : FeedEnd) : Type 0 where
   pub exact : end ≡ feedOf t m part room

@@ -8,7 +8,6 @@ use Rattle.scanner.proofs.Passing.{small-tables, small-memory}
 use borrow.Author.Needs.{needs}
 use Rattle.scanner.proofs.too_small.Statement.{statement}
 use Rattle.scanner.proofs.too_small.Tie as tie
-use Rattle.tables.proofs.size.Reads as size-reads′
 
 size-requires : tie.Need-size-requires
 size-requires c κs = search needs
