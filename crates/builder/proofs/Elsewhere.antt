@@ -7,10 +7,10 @@ use mathlib.Core.List.{List}
 use Prim.Native.Nat.{ℕ, zero, suc, _+_, _*_, _≤_, _<_}
 use native.Mathlib.Omega.{arith}
 use lib.Dec.{eqb}
-use lib.ListN.{length, getD, set, length-set}
+use lib.ListN.{length, getD, length-set}
 use Rattle.lent.proofs.Cases.{lt-or-le}
 use Rattle.lent.proofs.Numbers.{length-withNumber}
-use Rattle.tables.specs.Layout.{infoAt, depthAt, pieceAt, phraseAt, roomForPieces}
+use Rattle.tables.specs.Layout.{infoAt, depthAt, pieceAt, phraseAt}
 use Rattle.tables.specs.Reads.{linkIn, firstLinkIn, backIn, endingIn}
 use Rattle.endings.specs.Filled.{withEnding, withLink, withFirst, ownBelow, inheritedOut, inheritedInfo, withInherited, inheritedBelow, withLinkOn, linkedBelow, filled}
 use Rattle.endings.specs.Right.{Elsewhere}

@@ -22,7 +22,7 @@ use Rattle.survey.proofs.Right.{mark-meant}
 use Rattle.endings.specs.Filled.{filled}
 use Rattle.endings.specs.Right.{Ready, Right, Elsewhere}
 use Rattle.endings.proofs.Right.{filled-right, filled-kept}
-use Rattle.builder.specs.Passes.{Fresh, Readied, numberedBy, linkedBy, foundBy, statesBy, withHeader, readInto, tablesAfter, tablesFrom}
+use Rattle.builder.specs.Passes.{Fresh, Readied, numberedBy, linkedBy, foundBy, statesBy, readInto, tablesAfter, tablesFrom}
 use Rattle.builder.proofs.States.{count-is, states-linked, fail-linked, pieces-is, found-keyword}
 use Rattle.builder.proofs.Headed.{header-long}
 use Rattle.builder.proofs.Elsewhere.{length-filled}

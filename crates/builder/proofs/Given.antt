@@ -1,6 +1,6 @@
 -- The survey notes where the keyword of each piece stands, and the pieces of a book come in the order of its keywords: so what it
 -- notes gives the keywords of the book. Assumes nothing.
-use mathlib.Core.Path.{_≡_, sym, ap, _∙_}
+use mathlib.Core.Path.{_≡_, ap, _∙_}
 use mathlib.Core.List.{List, []}
 use Prim.Native.Nat.{ℕ, _<_}
 use native.Mathlib.Omega.{arith}

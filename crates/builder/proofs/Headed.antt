@@ -3,10 +3,10 @@
 use mathlib.Core.Path.{_≡_, _∙_}
 use mathlib.Core.Logic.{_⊎_, inl, inr}
 use mathlib.Core.List.{List, [], _∷_}
-use Prim.Native.Nat.{ℕ, _+_, _≤_, _<_}
+use Prim.Native.Nat.{ℕ, _≤_, _<_}
 use native.Mathlib.Omega.{arith}
 use lib.ListN.{length, getD}
-use Rattle.lent.specs.Numbers.{Apart, numberAt, withNumber}
+use Rattle.lent.specs.Numbers.{numberAt, withNumber}
 use Rattle.lent.proofs.Numbers.{length-withNumber, number-written, number-apart, number-byte-apart}
 use Rattle.tables.specs.Layout.{tagAt, statesAt, denseAt, piecesAt, phrasesAt, markAt, spareAt, roomForStates, roomForPieces, roomForPhrases, tablesTag, markFrom}
 use Rattle.tables.specs.Reads.{Whole, stateCountIn, pieceCountIn, phraseCountIn, markIn}

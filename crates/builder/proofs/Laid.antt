@@ -27,7 +27,7 @@ use Rattle.linking.specs.Filled.{Filled}
 use Rattle.endings.specs.Right.{Right, Elsewhere}
 use Rattle.builder.specs.Passes.{withHeader}
 use Rattle.builder.proofs.Regions.{single, byte-region, zero-region, region-kept}
-use Rattle.builder.proofs.Headed.{mark-small, header-long, header-kept, tag-written, mark-written, phrases-written, pieces-written, states-written}
+use Rattle.builder.proofs.Headed.{mark-small, header-kept, tag-written, mark-written, phrases-written, pieces-written, states-written}
 use Rattle.builder.proofs.Elsewhere.{elsewhere-low, elsewhere-high, elsewhere-front, elsewhere-back}
 
 -- The memory at the end of the passes, of which `ended` is what the last but the head leaves.

@@ -9,7 +9,6 @@ use lib.ListN.{length, getD}
 use lib.Seq.{ext-getD}
 use Rattle.lent.specs.Numbers.{Bytes}
 use Rattle.lent.proofs.Cases.{lt-or-le}
-use Rattle.format.specs.Refusals.{numberOf}
 use Rattle.format.specs.Judged.{Judgement, accepted, refused}
 use Rattle.format.proofs.Theorem.{judges-once}
 use Rattle.format.proofs.Answers.{number-range, number-once}

@@ -1,6 +1,6 @@
 -- What build leaves passes test 12 exactly when the book was accepted: then the memory holds the tables of a book within the limits,
 -- and else it is zero up to the published size. Assumes nothing.
-use mathlib.Core.Path.{_≡_, ap, _∙_}
+use mathlib.Core.Path.{_≡_, ap}
 use mathlib.Core.Bool.{false, So}
 use mathlib.Core.List.{List}
 use Prim.Native.Nat.{ℕ, _≤_}

@@ -1,7 +1,7 @@
 -- The second reading of an accepted book, in cleared memory, notes the keywords of the book and leaves the regions of the states as
 -- they were: so the passes over the states have what they ask for. Assumes nothing.
-use mathlib.Core.Path.{_≡_, refl, ap, _∙_}
-use mathlib.Core.Logic.{inl, inr}
+use mathlib.Core.Path.{_≡_, ap, _∙_}
+use mathlib.Core.Logic.{inl}
 use mathlib.Core.List.{List}
 use Prim.Native.Nat.{ℕ, _≤_, _<_}
 use native.Mathlib.Omega.{arith}

@@ -4,7 +4,6 @@ use mathlib.Core.Path.{_∙_}
 use Prim.Native.Nat.{ℕ, _<_}
 use native.Mathlib.Omega.{arith}
 use lib.ListN.{getD}
-use Rattle.survey.specs.Turns.{noted}
 use Rattle.builder.proofs.Reread.{few-bytes, reread-readied, few-pieces, few-phrases, passes-are}
 use borrow.Author.Needs.{needs}
 use Rattle.builder.proofs.passes.fill.Statement.{statement}
