@@ -1,7 +1,11 @@
 // Runs rows A to M of document 01 through build, begin and feed, and writes a line for each way to feed the letter: whole, cut
-// at every place, byte by byte, and with the least room. Each line has the reports, as (phrase, place), and the failure steps.
+// at every place, byte by byte, and with the least room. Each line has the reports, as (phrase, place), and the failure steps. The
+// last line is that of a refused build.
+mod refused;
+
 use builder::Built;
 use libc::STDOUT_FILENO;
+use refused::refused_build;
 use scanner::Begun;
 use scanner::Fed;
 
@@ -329,4 +333,5 @@ fn main() {
     of_three(b"M", b"");
     in_calls(b"abaaabab", 3);
     in_calls(b"abaaabab", 2);
+    refused_build();
 }
