@@ -1,5 +1,6 @@
 pub mod Refusals
 pub mod Records
+pub mod Readers
 pub mod Prefixes
 pub mod Judging
 pub mod Tallies

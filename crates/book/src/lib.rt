@@ -8,12 +8,15 @@ mod limits;
 mod phrases;
 mod prefixes;
 mod progress;
+mod reader;
 pub mod records;
 mod turns;
 
 pub use answers::Judged;
 pub use answers::Refusal;
 pub use judging::judge;
+pub use reader::Reader;
+pub use reader::next;
+pub use reader::read;
 pub use records::Cursor;
 pub use records::Found;
-pub use records::read;

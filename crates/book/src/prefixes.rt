@@ -5,9 +5,9 @@ ghost use Prim.Native.Nat.{_+_, _-_, _≤_, max};
 ghost use lib.ListN.{length};
 ghost use Rattle.format.specs.Prefixes.{commonPrefix, mostShared};
 ghost use Rattle.book.specs.Prefixes.{bytesFrom, noKeyword, spanOf, keywordsBefore};
+use crate::reader::read;
 use crate::records::Cursor;
 use crate::records::Found;
-use crate::records::read;
 
 // What a record leaves for the count: its keyword, which is the `count` bytes from `start` on and no bytes where it is no
 // keyword, and the offset behind it.

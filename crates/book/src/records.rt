@@ -1,4 +1,4 @@
-// The record reader: a slice and a cursor by value, and what is found there. The book is read where it lies, never by a copy.
+// The records of a book: what stands at an offset of its bytes. The book is read where it lies, never by a copy.
 ghost use mathlib.Core.Path.{_≡_};
 ghost use Prim.Native.Nat.{_+_, _<_};
 ghost use lib.ListN.{length};
@@ -152,11 +152,10 @@ fn whole_at(book: &[u8], at: usize, kind: u8) -> Found
     }
 }
 
-// What is found at a cursor. Where the book stops before it, the refusal is at the book's length.
-pub fn read(book: &[u8], cursor: Cursor) -> Found
-    ensures { λ r. ⌜ ReadRight (now (book .entry)) (cursor .at) r ⌝ }
+// What is found at an offset. Where the book stops before it, the refusal is at the book's length.
+pub(crate) fn record_at(book: &[u8], at: usize) -> Found
+    ensures { λ r. ⌜ ReadRight (now (book .entry)) at r ⌝ }
 {
-    let at = cursor.at;
     if book.len() <= at {
         return Found::Refused {
             why: Refusal::Cut,

@@ -17,14 +17,16 @@ use Rattle.lent.proofs.Numbers.{length-withNumber, number-byte-apart}
 use Rattle.lent.proofs.Zeros.{length-zeros}
 use Rattle.bits.specs.Bits.{bitOf, First}
 use Rattle.bits.proofs.Lowest.{first-same}
+use Rattle.counters.specs.declared.Place.{Place}
+use Rattle.closing.specs.Windows.{renewedTo}
+use Rattle.closing.specs.declared.Window.{Window}
 use Rattle.tables.specs.Layout.{roomForPieces}
 use Rattle.tables.specs.Reads.{spanIn}
 use Rattle.running.specs.Waiting.{never}
 use Rattle.running.specs.Layout.{flagAt, closingAt, ringAt, slotLength}
 use Rattle.running.specs.Reads.{flagIn, slotAt, bitAt, waitsIn}
 use Rattle.window.specs.Waiting.{slotOf}
-use Rattle.window.specs.Opening.{openSpan, closesAfter, renewedAt, withClosing, windowOpened, windowsOpened, slotEmptied, slotOpened}
-use Rattle.window.specs.declared.opens.Window.{Window}
+use Rattle.window.specs.Opening.{openSpan, closesAfter, withClosing, windowOpened, windowsOpened, slotEmptied, slotOpened}
 
 -- ── One window ──
 
@@ -38,10 +40,11 @@ module _ (span opened : ℕ) where
   closes-later differ = rw (ne-eqb span openSpan differ)
 
 -- A window that is renewed and put back has opened.
-pub renewed-opens : (t : List ℕ) (place : ℕ) (m m' : List ℕ) (p span : ℕ) (was window : Window)
-    → span ≡ spanIn t p → window ≡ renewedAt was span place → m' ≡ withClosing m p (window .closes .0) → m' ≡ windowOpened t place m p
-unfolding windowOpened renewedAt
-renewed-opens t place m m' p span was window e f put = put ∙ ap (λ (w : Window). withClosing m p (w .closes .0)) f ∙ ap (λ (k : ℕ). withClosing m p (closesAfter k place)) e
+pub renewed-opens : (t : List ℕ) (place : ℕ) (m m' : List ℕ) (p span : ℕ) (closes : Place) (was window : Window)
+    → span ≡ spanIn t p → closes .0 ≡ closesAfter span place → window ≡ renewedTo was closes → m' ≡ withClosing m p (window .closes .0) → m' ≡ windowOpened t place m p
+unfolding windowOpened renewedTo
+renewed-opens t place m m' p span closes was window e c f put =
+    put ∙ ap (λ (w : Window). withClosing m p (w .closes .0)) f ∙ ap (withClosing m p) (c ∙ ap (λ (k : ℕ). closesAfter k place) e)
 
 module _ (t : List ℕ) (place : ℕ) (m : List ℕ) (p : ℕ) where
   pub length-opened : length (windowOpened t place m p) ≡ length m

@@ -5,7 +5,6 @@ use mathlib.Core.List.{List}
 use Prim.Native.Nat.{ℕ, zero, suc, _+_, _*_}
 use lib.Dec.{eqb}
 use lib.ListN.{set}
-use Rattle.counters.specs.Counters.{placeOf}
 use Rattle.lent.specs.Numbers.{withNumber}
 use Rattle.lent.specs.Zeros.{withZeros}
 use Rattle.tables.specs.Layout.{roomForPieces}
@@ -14,7 +13,6 @@ use Rattle.running.specs.Waiting.{never}
 use Rattle.running.specs.Layout.{flagAt, closingAt, slotLength}
 use Rattle.running.specs.Reads.{flagIn, slotAt, waitsIn}
 use Rattle.window.specs.Waiting.{slotOf}
-use Rattle.window.specs.declared.opens.Window.{Window}
 
 -- The span of an open gap: its window never closes.
 abbrev pub openSpan : ℕ
@@ -23,10 +21,6 @@ openSpan = 65535
 -- The closing place of a window that opens at a place: a span later, or never.
 unfoldable pub closesAfter : ℕ → ℕ → ℕ
 closesAfter span opened = cond (eqb span openSpan) never (opened + span)
-
--- A piece's window once one opens at a place: its closing place is replaced by the later one.
-unfoldable pub renewedAt : Window → ℕ → ℕ → Window
-renewedAt window span opened = record { closes = placeOf (closesAfter span opened) }
 
 -- The memory with a closing place for piece p.
 unfoldable pub withClosing : List ℕ → ℕ → ℕ → List ℕ

@@ -8,8 +8,10 @@ ghost use Rattle.tables.specs.Layout.{roomForPieces};
 ghost use Rattle.tables.specs.Reads.{Whole};
 ghost use Rattle.running.specs.Waiting.{slots};
 ghost use Rattle.running.specs.Reads.{WholeRunning, closingPlaceIn, waitsIn};
-ghost use Rattle.window.specs.Opening.{closesAfter, renewedAt, withClosing, windowOpened, windowsOpened, slotEmptied, slotOpened};
+ghost use Rattle.window.specs.Opening.{closesAfter, withClosing, windowOpened, windowsOpened, slotEmptied, slotOpened};
 use crate::waits::slot_of;
+use closing::Window;
+use closing::renew_lent;
 use counters::Place;
 use running::layout::CLOSING;
 use running::layout::CLOSING_LENGTH;
@@ -27,11 +29,6 @@ const PIECES_IN_WORD: usize = 64;
 
 const WORDS: usize = 4;
 
-// The window of a piece: the last place at which the piece may end. One suffices, since a window that opens later closes later.
-pub struct Window {
-    closes: Place,
-}
-
 // The last place of a window that opens at a place. It may pass the largest place, so 32 bits don't hold it.
 fn closing_place(span: u16, opened: Place) -> Place
     requires { ⌜ InLetter (opened .0) ⌝ }
@@ -41,15 +38,6 @@ fn closing_place(span: u16, opened: Place) -> Place
         return Place::at(NEVER);
     }
     opened.later(lent::pair64(span))
-}
-
-// A piece's window once one opens at a place: its closing place is replaced by the later one.
-pub fn renewed(mut window: Window, span: u16, opened: Place) -> Window
-    requires { ⌜ InLetter (opened .0) ⌝ }
-    ensures { λ r. ⌜ r ≡ renewedAt window span (opened .0) ⌝ }
-{
-    window.closes = closing_place(span, opened);
-    window
 }
 
 // The window of a piece, as the memory has it.
@@ -84,7 +72,8 @@ fn open_window(t: &[u8], m: &mut [u8], piece: usize, place: Place)
     requires { ⌜ (Whole (now t)) × (WholeRunning (now m)) × (piece < roomForPieces) × (InLetter (place .0)) ⌝ }
     ensures { λ _. ⌜ now (m .exit) ≡ windowOpened (now (t .entry)) (place .0) (now (m .entry)) piece ⌝ }
 {
-    let window = renewed(window_of(m, piece), tables::span(t, piece), place);
+    let closes = closing_place(tables::span(t, piece), place);
+    let window = renew_lent(window_of(m, piece), closes);
     put_window(m, piece, window);
 }
 
