@@ -11,6 +11,7 @@ use lib.Dec.{eqb}
 use lib.ListN.{length, getD, length-append, List·getD-append}
 use lib.Seq.{append-snoc, getD-append-seam}
 use borrow.Author.Tests.{eqb-true, eq-eqb}
+use Rattle.lent.proofs.Cases.{lt-or-le}
 use Rattle.meaning.specs.Books.{Book, keywords}
 use Rattle.meaning.specs.Reports.{choose}
 use Rattle.meaning.specs.Automaton.{IsState, isState, some-of, after}
@@ -126,6 +127,23 @@ module _ (book : Book) where
         List·getD-append (occurringBelow book n) (choose (occurs book) (n ∷ [])) 0 (length (occurringBelow book a)) (r .0) ∙ r .1,
       )
 
+  -- What stands in the list occurs, and stands behind those below it.
+  pub byte-class : (n c : ℕ) → c < length (occurringBelow book n) → (a : ℕ) × (a < n) × So (occurs book a) × (getD (occurringBelow book n) c 0 ≡ a) × (length (occurringBelow book a) ≡ c)
+  byte-class zero c l = absurd (omega (arith, below-few 0))
+  byte-class (suc n) c l = ⊎-elim
+      (λ (k : c < length (occurringBelow book n)).
+      let r = byte-class n c k in
+      (r .0, omega (arith, r .1), r .2, rw (below-more n) (List·getD-append (occurringBelow book n) (choose (occurs book) (n ∷ [])) 0 c k ∙ r .3), r .4))
+      (λ (k : length (occurringBelow book n) ≤ c). last (occurs book n) refl k)
+      (lt-or-le c (length (occurringBelow book n)))
+    where
+      last : (v : Bool) → occurs book n ≡ v → length (occurringBelow book n) ≤ c
+          → (a : ℕ) × (a < suc n) × So (occurs book a) × (getD (occurringBelow book (suc n)) c 0 ≡ a) × (length (occurringBelow book a) ≡ c)
+      last true e k =
+          let here : length (occurringBelow book n) ≡ c = omega (arith, rw e at (below-grows n)) in
+          (n, omega arith, e, ap (λ i. getD (occurringBelow book (suc n)) i 0) (sym here) ∙ class-byte (suc n) n (omega arith) e .1, here)
+      last false e k = absurd (omega (arith, rw e at (below-grows n)))
+
   -- ── Classes ──
 
   pub class-occurs : (a : ℕ) → occurs book a ≡ true → classOf book a ≡ length (occurringBelow book a) + 1
@@ -135,6 +153,16 @@ module _ (book : Book) where
   pub class-absent : (a : ℕ) → occurs book a ≡ false → classOf book a ≡ 0
   unfolding classOf
   class-absent a e = rw e
+
+  -- No other byte has the class of a byte that occurs.
+  pub class-once : (a b : ℕ) → a < byteValues → b < byteValues → So (occurs book a) → classOf book b ≡ classOf book a → b ≡ a
+  class-once a b l k h e = go (occurs book b) refl
+    where
+      go : (v : Bool) → occurs book b ≡ v → b ≡ a
+      go true x =
+          let place : length (occurringBelow book b) ≡ length (occurringBelow book a) = omega (arith, e, class-occurs a h, class-occurs b x) in
+          sym (class-byte byteValues b k x .1) ∙ ap (λ i. getD (occurringBelow book byteValues) i 0) place ∙ class-byte byteValues a l h .1
+      go false x = absurd (omega (arith, e, class-occurs a h, class-absent b x))
 
   pub class-below : (a : ℕ) → a < byteValues → classOf book a < classCount book
   unfolding classCount occurring
