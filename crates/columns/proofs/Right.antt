@@ -97,9 +97,10 @@ module _ (book : Book) (bytes : All Bytes (keywords (book .phrases))) (room : st
   all-noted : Noted byteValues (classed before (stateCount book) byteValues)
   all-noted = noted-to byteValues (omega arith)
 
-  dense-is : denseFor before (stateCount book) ≡ denseCount book
+  -- As many states have a row as the layout says.
+  pub dense-right : denseFor before (stateCount book) ≡ denseCount book
   unfolding denseFor mostRows denseCount classCount occurring
-  dense-is = rw (all-noted .next)
+  dense-right = rw (all-noted .next)
 
   abbrev headed : List ℕ
   headed = withNumber 2 noted denseAt (denseCount book)
@@ -152,7 +153,7 @@ module _ (book : Book) (bytes : All Bytes (keywords (book .phrases))) (room : st
   -- Both regions are the layout's, and every other byte is as it was.
   pub columned-right : Right book before (columned before (stateCount book))
   unfolding columned
-  columned-right = rw dense-is (record {
+  columned-right = rw dense-right (record {
     dense = number-agree 2 filled headed denseAt (λ k a b. done .kept k (inl (omega arith))) ∙ number-written 2 noted denseAt (denseCount book) (omega (arith, all-noted .whole)) (omega (arith, dense-range book .1));
     columns = λ a l. done .columns a l;
     kept = kept;
