@@ -7,6 +7,7 @@ use Prim.Native.Nat.{ℕ, zero, suc, _+_, _*_, _≤_, _<_}
 use native.Mathlib.Nat.{le-suc-iff}
 use native.Mathlib.Omega.{arith}
 use lib.ListN.{length, getD}
+use borrow.Author.Tests.{eq-eqb, ne-eqb}
 use Rattle.lent.proofs.Cases.{eq-or-ne}
 use Rattle.lent.proofs.Numbers.{length-withNumber, number-written, number-apart, number-byte-apart}
 use Rattle.meaning.specs.Books.{Book, keywords}
@@ -24,7 +25,21 @@ use Rattle.stepping.proofs.Turns as stepping
 use Rattle.stepping.proofs.Right.{next-right}
 use Rattle.stepping.proofs.Kept.{states-kept, failures-kept}
 use Rattle.cells.specs.Cells.{nextFor, withCell, withCells}
-use Rattle.cells.proofs.Turns.{next-child, next-root, next-failure}
+
+-- ── What is put into a cell ──
+
+module _ (t : List ℕ) (states column byte i : ℕ) where
+  next-child : (childByIn t states i byte ≡ 0 → ⊥) → nextFor t states column byte i ≡ childByIn t states i byte
+  unfolding nextFor
+  next-child h = rw (ne-eqb (childByIn t states i byte) 0 h)
+
+  next-root : childByIn t states i byte ≡ 0 → i ≡ 0 → nextFor t states column byte i ≡ 0
+  unfolding nextFor
+  next-root h z = rw (eq-eqb (childByIn t states i byte) 0 h, eq-eqb i 0 z)
+
+  next-failure : childByIn t states i byte ≡ 0 → (i ≡ 0 → ⊥) → nextFor t states column byte i ≡ cellIn t column (backIn t i)
+  unfolding nextFor
+  next-failure h z = rw (eq-eqb (childByIn t states i byte) 0 h, ne-eqb i 0 z)
 
 module _ (book : Book) (bytes : All Bytes (keywords (book .phrases))) (room : stateCount book ≤ roomForStates) where
   -- ── One cell ──

@@ -1,27 +1,13 @@
 -- One cell and one column at a time: each turn of a loop is one more of its definition, and each end of a test is one of its sides.
 -- Assumes nothing.
-use mathlib.Core.Path.{_≡_, refl, sym, _∙_}
+use mathlib.Core.Path.{_≡_}
 use mathlib.Core.List.{List}
 use Prim.Native.Nat.{ℕ, _+_, _*_, _≤_, _<_}
 use native.Mathlib.Numerals.{add-one}
-use borrow.Author.Tests.{eq-eqb, ne-eqb, le-leb, lt-leb, lt-ltb, le-ltb}
+use borrow.Author.Tests.{le-leb, lt-leb, lt-ltb, le-ltb}
 use Rattle.tables.specs.Layout.{rowsAt}
-use Rattle.tables.specs.Reads.{columnIn, cellIn, backIn}
-use Rattle.stepping.specs.Steps.{childByIn}
-use Rattle.cells.specs.Cells.{nextFor, withCell, withCells, withColumn, withRows}
-
-module _ (t : List ℕ) (states column byte i : ℕ) where
-  pub next-child : (childByIn t states i byte ≡ 0 → ⊥) → nextFor t states column byte i ≡ childByIn t states i byte
-  unfolding nextFor
-  next-child h = rw (ne-eqb (childByIn t states i byte) 0 h)
-
-  pub next-root : childByIn t states i byte ≡ 0 → i ≡ 0 → nextFor t states column byte i ≡ 0
-  unfolding nextFor
-  next-root h z = rw (eq-eqb (childByIn t states i byte) 0 h, eq-eqb i 0 z)
-
-  pub next-failure : childByIn t states i byte ≡ 0 → (i ≡ 0 → ⊥) → nextFor t states column byte i ≡ cellIn t column (backIn t i)
-  unfolding nextFor
-  next-failure h z = rw (eq-eqb (childByIn t states i byte) 0 h, ne-eqb i 0 z)
+use Rattle.tables.specs.Reads.{columnIn}
+use Rattle.cells.specs.Cells.{withCell, withCells, withColumn, withRows}
 
 pub cells-turn : (t₀ : List ℕ) (states column byte i state : ℕ) (t now : List ℕ) → t ≡ withCells t₀ states column byte i → state ≡ i
     → now ≡ withCell t states column byte state → now ≡ withCells t₀ states column byte (i + 1)

@@ -19,7 +19,8 @@ fn next_of(t: &[u8], states: usize, column: usize, byte: u8, state: State) -> us
     if state.number() == 0 {
         return 0;
     }
-    tables::cell(t, column, tables::failure(t, state))
+    let back = tables::failure(t, state);
+    tables::cell(t, column, back)
 }
 
 fn put_cell(t: &mut [u8], states: usize, column: usize, byte: u8, state: State)

@@ -1,4 +1,4 @@
--- One byte at a time: each turn of a loop is one more of its definition, and the two ends of a test are its two sides.
+-- One byte at a time: each turn of a loop is one more of its definition.
 -- Assumes nothing.
 use mathlib.Core.Path.{_≡_, refl, _∙_}
 use mathlib.Core.List.{List}
@@ -6,22 +6,10 @@ use Prim.Native.Nat.{ℕ, _+_, _*_, _≤_, _<_}
 use native.Mathlib.Nat.{mul-le-mul}
 use native.Mathlib.Numerals.{add-one}
 use native.Mathlib.Omega.{arith}
-use borrow.Author.Tests.{eq-eqb, ne-eqb}
 use Rattle.lent.specs.Numbers.{withNumber}
 use Rattle.numbering.specs.States.{byteValues}
-use Rattle.tables.specs.Layout.{denseAt, columnAt, roomForStates}
-use Rattle.columns.specs.Columns.{labelledBy, classFor, nextClass, withClass, classed, mostRows, withColumn, withColumns, denseFor, columned}
-
-module _ (t : List ℕ) (states next byte : ℕ) where
-  pub class-none : labelledBy t states byte ≡ 0 → (now : List ℕ) → now ≡ withNumber 2 t (columnAt + 2 * byte) 0
-      → (next ≡ nextClass t states next byte) × (now ≡ withClass t states next byte)
-  unfolding nextClass withClass classFor
-  class-none e now h = (rw (eq-eqb (labelledBy t states byte) 0 e), rw (eq-eqb (labelledBy t states byte) 0 e) h)
-
-  pub class-some : (labelledBy t states byte ≡ 0 → ⊥) → (now : List ℕ) → now ≡ withNumber 2 t (columnAt + 2 * byte) next
-      → (next + 1 ≡ nextClass t states next byte) × (now ≡ withClass t states next byte)
-  unfolding nextClass withClass classFor
-  class-some e now h = (rw (ne-eqb (labelledBy t states byte) 0 e), rw (ne-eqb (labelledBy t states byte) 0 e) h)
+use Rattle.tables.specs.Layout.{denseAt, roomForStates}
+use Rattle.columns.specs.Columns.{nextClass, withClass, classed, mostRows, withColumn, withColumns, denseFor, columned}
 
 pub classed-turn : (t₀ : List ℕ) (states byte : ℕ) (t now : List ℕ) (next after : ℕ)
     → t ≡ classed t₀ states byte .tables → next ≡ classed t₀ states byte .next

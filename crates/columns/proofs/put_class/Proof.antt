@@ -1,7 +1,9 @@
 -- The two ends are the two sides of the test: no state has the byte as its label, or some has.
 -- Assumes nothing.
 use native.Mathlib.Omega.{arith}
-use Rattle.columns.proofs.Turns.{class-none, class-some}
+use mathlib.Core.Path.{_≡_, refl}
+use borrow.Author.Tests.{eq-eqb, ne-eqb}
+use Rattle.columns.specs.Columns.{labelledBy, classFor, nextClass, withClass}
 use borrow.Author.Needs.{needs}
 use Rattle.columns.proofs.put_class.Statement.{statement}
 use Rattle.columns.proofs.put_class.Tie as tie
@@ -28,10 +30,11 @@ same-length : tie.Need-same-length
 same-length c = search needs
 
 returns : tie.Need-returns
+unfolding nextClass withClass classFor
 returns c =
     let a = c .before .before .before .before .before .before .before .before .before .args in
-    let turn = class-none (a .t .now) (a .states) (a .next) (a .byte) (cc) _ (c .before .before .put2 .ensures) in
-    (turn, (omega arith, omega arith))
+    let none : labelledBy (a .t .now) (a .states) (a .byte) ≡ 0 = cc in
+    rw (eq-eqb (labelledBy (a .t .now) (a .states) (a .byte)) 0 none) ((refl, c .before .before .put2 .ensures), (omega arith, omega arith))
 
 mul-put2-2 : tie.Need-mul-put2-2
 mul-put2-2 c = search needs
@@ -52,10 +55,11 @@ same-length-2 : tie.Need-same-length-2
 same-length-2 c = search needs
 
 returns-2 : tie.Need-returns-2
+unfolding nextClass withClass classFor
 returns-2 c =
     let a = c .before .before .before .before .before .before .before .before .before .args in
-    let turn = class-some (a .t .now) (a .states) (a .next) (a .byte) (λ e. c .before .before .before .before .if1 .left (cc)) _ (c .before .before .put22 .ensures) in
-    (turn, (omega arith, omega arith))
+    let some : labelledBy (a .t .now) (a .states) (a .byte) ≡ 0 → ⊥ = λ e. c .before .before .before .before .if1 .left (cc) in
+    rw (ne-eqb (labelledBy (a .t .now) (a .states) (a .byte)) 0 some) ((refl, c .before .before .put22 .ensures), (omega arith, omega arith))
 
 pub put-class-spec : {M : Type 1} → statement M
 put-class-spec =
