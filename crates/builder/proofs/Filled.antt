@@ -12,9 +12,12 @@ use Rattle.meaning.specs.Books.{Book}
 use Rattle.numbering.specs.States.{stateCount}
 use Rattle.tables.specs.Regions.{Laid}
 use Rattle.tables.specs.Spots.{spotCount}
-use Rattle.tables.specs.Layout.{tablesSize, tablesLayout, infoAt, outAt, labelAt, pieceAt, roomForPieces, bookMark}
+use Rattle.tables.specs.Layout.{tablesSize, tablesLayout, infoAt, outAt, depthAt, labelAt, pieceAt, rowsAt, roomForStates, roomForPieces, bookMark}
 use Rattle.tables.specs.Reads.{Whole, linkIn}
 use Rattle.tables.proofs.Parts.{number-zero}
+use Rattle.tables.proofs.Fits.{fits}
+use Rattle.stepping.proofs.Kept.{states-kept, failures-kept}
+use Rattle.linking.proofs.Filled.{states-held, failures-held}
 use Rattle.survey.specs.Turns.{Notes}
 use Rattle.survey.specs.Survey.{surveyed, countsOf}
 use Rattle.survey.specs.Meant.{SurveyMeant}
@@ -22,10 +25,11 @@ use Rattle.survey.proofs.Right.{mark-meant}
 use Rattle.endings.specs.Filled.{filled}
 use Rattle.endings.specs.Right.{Ready, Right, Elsewhere}
 use Rattle.endings.proofs.Right.{filled-right, filled-kept}
-use Rattle.builder.specs.Passes.{Fresh, Readied, numberedBy, linkedBy, foundBy, statesBy, readInto, tablesAfter, tablesFrom}
+use Rattle.builder.specs.Passes.{Fresh, Readied, numberedBy, linkedBy, foundBy, statesBy, rowsBy, readInto, tablesAfter, tablesFrom}
 use Rattle.builder.proofs.States.{count-is, states-linked, fail-linked, pieces-is, found-keyword}
 use Rattle.builder.proofs.Headed.{header-long}
-use Rattle.builder.proofs.Elsewhere.{length-filled}
+use Rattle.builder.proofs.Elsewhere.{elsewhere-low, elsewhere-high, length-filled}
+use Rattle.builder.proofs.Rows.{RowsReady, RowsRight, rowed-right}
 use Rattle.builder.proofs.Reread.{unread, reread-meant, reread-readied}
 use Rattle.builder.proofs.Laid.{tablesOf, built-past, built-laid}
 
@@ -47,6 +51,9 @@ module _ (book : Book) (bytes blank : List ℕ) (each : Bytes bytes) (fresh : Fr
   abbrev ended : List ℕ
   ended = statesBy bytes pieces notes
 
+  abbrev rowed : List ℕ
+  rowed = rowsBy (stateCount book) ended
+
   meant : SurveyMeant book bytes (unread blank) (countsOf (readInto bytes blank)) notes
   unfolding readInto
   meant = reread-meant book bytes blank each fresh (countsOf (surveyed bytes (unread blank))) (surveyed bytes (unread blank) .notes) (record { counts = refl; notes = refl })
@@ -60,7 +67,7 @@ module _ (book : Book) (bytes blank : List ℕ) (each : Bytes bytes) (fresh : Fr
   unfolding statesBy
   ended-is = ap₂ (λ n p. filled found n p linked) (count-is book bytes pieces notes ready) (pieces-is book bytes pieces notes ready)
 
-  tables-are : tablesFrom bytes blank ≡ tablesOf book ended
+  tables-are : tablesFrom bytes blank ≡ tablesOf book rowed
   unfolding tablesFrom tablesAfter
   tables-are = rw (count-is book bytes pieces notes ready, meant .pieces, meant .phrases, mark-meant (fresh .accepted))
 
@@ -72,9 +79,6 @@ module _ (book : Book) (bytes blank : List ℕ) (each : Bytes bytes) (fresh : Fr
   ended-long : length ended ≡ length blank
   unfolding statesBy
   ended-long = length-filled found (numberedBy bytes pieces notes .states) pieces linked ∙ linked-long
-
-  pub tables-long : length (tablesFrom bytes blank) ≡ length blank
-  tables-long = rw tables-are (header-long (stateCount book) (spotCount book) (length (book .phrases)) (bookMark book) ended ∙ ended-long)
 
   module _ (clean : (k : ℕ) → k < tablesSize → getD blank k 0 ≡ 0) where
     -- ── What the endings find ──
@@ -106,15 +110,43 @@ module _ (book : Book) (bytes blank : List ℕ) (each : Bytes bytes) (fresh : Fr
     ended-kept : (k : ℕ) → Elsewhere k → getD ended k 0 ≡ getD linked k 0
     ended-kept k a = rw ended-is (filled-kept book (fresh .accepted .within) found linked endings-ready k a)
 
-    ended-whole : Whole ended
-    ended-whole = omega (arith, ended-long, fresh .whole)
+    -- ── What the rows find ──
+
+    ended-states : (k : ℕ) → labelAt ≤ k → k < pieceAt → getD ended k 0 ≡ getD linked k 0
+    ended-states k a b = ended-kept k (elsewhere-low k (inr (omega arith, b)))
+
+    zero-cells : (k : ℕ) → rowsAt ≤ k → k < 49152 → getD ended k 0 ≡ 0
+    unfolding tablesSize
+    zero-cells k a b =
+        ended-kept k (elsewhere-high k (omega arith)) ∙ states-linked book bytes pieces notes ready .kept k (inr (omega arith)) ∙ meant .entered .elsewhere k (inr a)
+        ∙ clean k b
+
+    rows-ready : RowsReady book ended
+    rows-ready =
+        let room : stateCount book ≤ roomForStates = fits book (fresh .accepted .within) .states in
+        let links = states-linked book bytes pieces notes ready in
+        record {
+          whole = omega (arith, ended-long, fresh .whole);
+          states = states-kept book room linked ended ended-states (states-held book room (notes .tables) linked links);
+          failures = failures-kept book room linked ended ended-states (stateCount book) (omega arith) (failures-held book room (notes .tables) linked links);
+          depths = λ i l. ended-kept (depthAt + i) (elsewhere-low (depthAt + i) (inr (omega arith, omega arith))) ∙ zero-linked (depthAt + i) (omega arith);
+          infos = right .infos;
+          cells = zero-cells;
+        }
+
+    rows : RowsRight book ended rowed
+    rows = rowed-right book (fresh .accepted .within) ended rows-ready
 
     -- ── What is built ──
 
     pub tables-laid : Laid (tablesLayout book) (tablesFrom bytes blank)
     tables-laid = rw tables-are
-        (built-laid book (fresh .accepted .within) blank (notes .tables) linked ended (meant .entered) (states-linked book bytes pieces notes ready) ended-kept ended-whole right clean)
+        (built-laid book (fresh .accepted .within) blank (notes .tables) linked ended rowed (meant .entered) (states-linked book bytes pieces notes ready) ended-kept rows
+        (omega (arith, rows .long, ended-long, fresh .whole)) right clean)
 
     pub tables-past : (k : ℕ) → tablesSize ≤ k → getD (tablesFrom bytes blank) k 0 ≡ getD blank k 0
     tables-past k l = rw tables-are
-        (built-past book (fresh .accepted .within) blank (notes .tables) linked ended (meant .entered) (states-linked book bytes pieces notes ready) ended-kept k l)
+        (built-past book (fresh .accepted .within) blank (notes .tables) linked ended rowed (meant .entered) (states-linked book bytes pieces notes ready) ended-kept rows k l)
+
+    pub tables-long : length (tablesFrom bytes blank) ≡ length blank
+    tables-long = rw tables-are (header-long (stateCount book) (spotCount book) (length (book .phrases)) (bookMark book) rowed ∙ rows .long ∙ ended-long)

@@ -5,6 +5,7 @@ pub mod States
 pub mod Headed
 pub mod Elsewhere
 pub mod Reread
+pub mod Rows
 pub mod Laid
 pub mod Filled
 pub mod Right

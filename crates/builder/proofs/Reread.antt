@@ -16,7 +16,7 @@ use Rattle.survey.specs.Turns.{Notes, noted}
 use Rattle.survey.specs.Survey.{SurveyExact}
 use Rattle.survey.specs.Meant.{Blank, SurveyMeant}
 use Rattle.survey.proofs.Right.{survey-meant}
-use Rattle.builder.specs.Passes.{Fresh, Readied, StatesExact, withHeader, readInto, tablesAfter, tablesFrom}
+use Rattle.builder.specs.Passes.{Fresh, Readied, StatesExact, rowsBy, withHeader, readInto, tablesAfter, tablesFrom}
 use Rattle.builder.proofs.Given.{notes-give}
 
 -- What the survey is lent.
@@ -57,7 +57,8 @@ module _ (book : Book) (bytes blank : List ℕ) (each : Bytes bytes) (fresh : Fr
 -- The passes one after the other, each as it is defined, make the tables.
 pub passes-are : (bytes blank : List ℕ) (answer : Surveyed) (after : Notes) → SurveyExact bytes (unread blank) answer after
     → (states : ℕ) (t : List ℕ) → StatesExact bytes (answer .pieces) after states t
+    → (rowed : List ℕ) → rowed ≡ rowsBy states t
     → (mark : ℕ) → mark ≡ markFrom 0 bytes
-    → withHeader states (answer .pieces) (answer .phrases) mark t ≡ tablesFrom bytes blank
+    → withHeader states (answer .pieces) (answer .phrases) mark rowed ≡ tablesFrom bytes blank
 unfolding tablesFrom tablesAfter readInto
-passes-are bytes blank answer after read states t filled mark is = rw (filled .count, filled .tables, is, read .counts, read .notes)
+passes-are bytes blank answer after read states t filled rowed rows mark is = rw (rows, filled .count, filled .tables, is, read .counts, read .notes)

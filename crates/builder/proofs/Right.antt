@@ -61,7 +61,7 @@ module _ (bytes before : List ℕ) (each : Bytes bytes) (large : tablesSize ≤ 
         says = refl;
         holds = tables-laid b bytes blank each fresh blank-zero;
         past = λ k l. tables-past b bytes blank each fresh blank-zero k l ∙ blank-past k l;
-        long = tables-long b bytes blank each fresh ∙ blank-long;
+        long = tables-long b bytes blank each fresh blank-zero ∙ blank-long;
       }
   outcome-judged (refused why offset) true-of = record {
     judgement = refused why offset;

@@ -75,6 +75,7 @@ module _ (book : Book) (bytes : List ℕ) (pieces : ℕ) (notes : Notes) (ready 
   unfolding statesBy foundBy linkedBy
   states-exact states numbers links at after counted first second third fourth = record {
     count = counted;
+    some = omega (arith, counted, count-positive);
     few = omega (arith, counted, count-room);
     tables = rw (fourth, third, second, first, counted);
   }

@@ -7,6 +7,7 @@ use Rattle.meaning.specs.Books.{Book}
 use Rattle.format.specs.Limits.{Within}
 use Rattle.format.specs.Judged.{AcceptedAs}
 use Rattle.lent.specs.Numbers.{withNumber}
+use Rattle.numbering.specs.States.{byteValues}
 use Rattle.tables.specs.Layout.{tagAt, statesAt, piecesAt, phrasesAt, markAt, labelAt, pieceAt, rowsAt, roomForStates, roomForPieces, tablesTag, markFrom}
 use Rattle.tables.specs.Reads.{Whole}
 use Rattle.survey.specs.Turns.{Notes, noted, Reading}
@@ -17,6 +18,9 @@ use Rattle.filling.specs.Filled.{Zero}
 use Rattle.linking.specs.Failures.{linked}
 use Rattle.linking.specs.Keywords.{keywordStates}
 use Rattle.endings.specs.Filled.{filled}
+use Rattle.columns.specs.Columns.{denseFor, columned}
+use Rattle.cells.specs.Cells.{withRows}
+use Rattle.depths.specs.Depths as depths
 
 -- ── What the passes are lent ──
 
@@ -56,8 +60,15 @@ statesBy bytes pieces notes = filled (foundBy bytes pieces notes) (numberedBy by
 -- How many states there are, and the memory with all that is said of them.
 pub record StatesExact (bytes : List ℕ) (pieces : ℕ) (before : Notes) (answer : ℕ) (after : List ℕ) : Type 0 where
   pub count : answer ≡ numberedBy bytes pieces before .states
+  pub some : 1 ≤ answer
   pub few : answer ≤ roomForStates
   pub tables : after ≡ statesBy bytes pieces before
+
+-- ── Columns, rows and depths ──
+
+-- The bytes have their columns, the first states their rows, and all states their depths.
+unfoldable pub rowsBy : ℕ → List ℕ → List ℕ
+rowsBy states t = depths.filled (withRows (columned t states) states (denseFor t states) byteValues) states
 
 -- ── The whole ──
 
@@ -74,10 +85,10 @@ readInto bytes blank = surveyed bytes (noted blank (replicate roomForPieces 0) (
 
 -- What is filled in after it.
 unfoldable pub tablesAfter : List ℕ → Reading → List ℕ
-unfolding statesBy withHeader
+unfolding statesBy rowsBy withHeader
 tablesAfter bytes end =
     withHeader (numberedBy bytes (end .progress .pieces) (end .notes) .states) (end .progress .pieces) (end .progress .phrases) (markFrom 0 bytes)
-    (statesBy bytes (end .progress .pieces) (end .notes))
+    (rowsBy (numberedBy bytes (end .progress .pieces) (end .notes) .states) (statesBy bytes (end .progress .pieces) (end .notes)))
 
 -- The tables that the bytes of a book lead to.
 unfoldable pub tablesFrom : List ℕ → List ℕ → List ℕ

@@ -1,8 +1,11 @@
 // The passes that fill the tables of an accepted book, each over what the one before it leaves.
 ghost use mathlib.Core.Path.{_≡_};
+ghost use Prim.Native.Nat.{_≤_};
 ghost use Rattle.meaning.specs.Books.{Book};
+ghost use Rattle.tables.specs.Layout.{roomForStates};
+ghost use Rattle.tables.specs.Reads.{Whole};
 ghost use Rattle.survey.specs.Turns.{noted};
-ghost use Rattle.builder.specs.Passes.{Fresh, Readied, StatesExact, tablesFrom};
+ghost use Rattle.builder.specs.Passes.{Fresh, Readied, StatesExact, rowsBy, tablesFrom};
 use crate::header::put_header;
 use filling::number_states;
 use linking::keyword_states;
@@ -29,7 +32,17 @@ fn fill_states(
     states
 }
 
-// Fills cleared memory with the tables of an accepted book: its pieces and phrases from a second reading, then its states.
+// Where the states are, the bytes get their columns, the first states their rows, and all states their depths.
+fn fill_rows(t: &mut [u8], states: usize)
+    requires { ⌜ (Whole (now t)) × (1 ≤ states) × (states ≤ roomForStates) ⌝ }
+    ensures { λ _. ⌜ now (t .exit) ≡ rowsBy states (now (t .entry)) ⌝ }
+{
+    let dense = columns::fill(t, states);
+    cells::fill(t, states, dense);
+    depths::fill(t, states);
+}
+
+// Fills cleared memory with the tables of an accepted book: its pieces and phrases from a second reading, then its states and their rows.
 pub fn fill(book: &[u8], t: &mut [u8])
     requires { ⌜ ((sound : Book) × Fresh sound (now book) (now t)) ⌝ }
     ensures { λ _. ⌜ now (t .exit) ≡ tablesFrom (now (book .entry)) (now (t .entry)) ⌝ }
@@ -39,5 +52,6 @@ pub fn fill(book: &[u8], t: &mut [u8])
     let surveyed = survey(book, t, &mut offsets, &mut lengths);
     let pieces = surveyed.pieces;
     let states = fill_states(book, t, &offsets, &lengths, pieces);
+    fill_rows(t, states);
     put_header(t, states, pieces, surveyed.phrases, mark_of(book));
 }

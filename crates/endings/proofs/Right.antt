@@ -14,7 +14,7 @@ use Rattle.format.specs.Limits.{Within}
 use Rattle.numbering.specs.States.{stateCount, stateAt}
 use Rattle.tables.specs.Spots.{Spot, spotsOf, noSpot, spotAt, spotCount}
 use Rattle.tables.specs.Endings.{piecesWith, piecesWithEach, endings, keywordOf, behind, linkTo, headOf, someIn, linkOf}
-use Rattle.tables.specs.Layout.{roomForStates, roomForPieces, upTo, infoOf, outOf}
+use Rattle.tables.specs.Layout.{roomForStates, roomForPieces, upTo, endingMark, outOf}
 use Rattle.tables.specs.Reads.{linkIn}
 use Rattle.tables.proofs.Fits.{fits}
 use Rattle.tables.proofs.Endings.{endings-empty}
@@ -92,9 +92,9 @@ module _ (book : Book) (within : Within book) where
 
     -- Afterwards info, out and the links are those of the layout.
     pub filled-right : Right book (filled at (stateCount book) (spotCount book) t)
-    unfolding infoOf outOf someIn headOf laterOf linkTo
+    unfolding endingMark outOf someIn headOf laterOf linkTo
     filled-right = record {
-      infos = λ i l. link-right .0 .shows i l .info ∙ up-to (stateCount book) (infoOf book) (λ j a. rw (no-ending j a)) i;
+      infos = λ i l. link-right .0 .shows i l .info ∙ up-to (stateCount book) (endingMark book) (λ j a. rw (no-ending j a)) i;
       outs = λ i l. link-right .0 .shows i l .out ∙ up-to (stateCount book) (outOf book) (λ j a. rw (no-ending j a)) i;
       links = λ p l. link-all p l ∙ up-to (spotCount book) (linkOf book) no-link p;
     }

@@ -8,7 +8,7 @@ use Rattle.meaning.specs.Books.{Book}
 use Rattle.numbering.specs.States.{stateCount, numberIn, failureIn}
 use Rattle.tables.specs.Spots.{spotCount}
 use Rattle.tables.specs.Endings.{keywordOf, linkOf}
-use Rattle.tables.specs.Layout.{infoAt, depthAt, pieceAt, roomForStates, roomForPieces, upTo, infoOf, outOf}
+use Rattle.tables.specs.Layout.{infoAt, depthAt, pieceAt, roomForStates, roomForPieces, upTo, endingMark, outOf}
 use Rattle.tables.specs.Reads.{Whole, infoIn, outIn, linkIn, failIn}
 
 -- Before: no state has an ending, no piece a link, the failures are the book's, and `at` has the state of each piece's keyword.
@@ -22,7 +22,7 @@ pub record Ready (book : Book) (at t : List ℕ) : Type 0 where
 
 -- Afterwards: info, out and the links are those of the layout, in every entry.
 pub record Right (book : Book) (t : List ℕ) : Type 0 where
-  pub infos : (i : ℕ) → i < roomForStates → infoIn t i ≡ upTo (stateCount book) (infoOf book) i
+  pub infos : (i : ℕ) → i < roomForStates → infoIn t i ≡ upTo (stateCount book) (endingMark book) i
   pub outs : (i : ℕ) → i < roomForStates → outIn t i ≡ upTo (stateCount book) (outOf book) i
   pub links : (p : ℕ) → p < roomForPieces → linkIn t p ≡ upTo (spotCount book) (linkOf book) p
 

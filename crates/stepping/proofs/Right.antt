@@ -24,12 +24,12 @@ use Rattle.stepping.specs.Held.{HoldsStates, HoldsFailures}
 
 module _ (t : List ℕ) (byte : ℕ) where
   -- The number i is one of those searched, and its label is the byte.
-  record Has (many from i : ℕ) : Type 0 where
-    low : from ≤ i
-    high : i < from + many
-    label : labelIn t i ≡ byte
+  pub record Has (many from i : ℕ) : Type 0 where
+    pub low : from ≤ i
+    pub high : i < from + many
+    pub label : labelIn t i ≡ byte
 
-  found : (many from : ℕ) → (labelledIn t byte many from ≡ 0 → ⊥) → Has many from (labelledIn t byte many from)
+  pub found : (many from : ℕ) → (labelledIn t byte many from ≡ 0 → ⊥) → Has many from (labelledIn t byte many from)
   unfolding labelledIn
   found zero from some = absurd (some refl)
   found (suc many) from some = go (eqb (labelIn t from) byte) refl (found many (from + 1)) some
@@ -43,7 +43,7 @@ module _ (t : List ℕ) (byte : ℕ) where
           let h : Has many (from + 1) rest = later some in
           record { low = omega (arith, h .low); high = omega (arith, h .high); label = h .label }
 
-  missing : (many from : ℕ) → 0 < from → labelledIn t byte many from ≡ 0 → (i : ℕ) → Has many from i → ⊥
+  pub missing : (many from : ℕ) → 0 < from → labelledIn t byte many from ≡ 0 → (i : ℕ) → Has many from i → ⊥
   unfolding labelledIn
   missing zero from p none i h = omega (arith, h .low, h .high)
   missing (suc many) from p none i h = go (eqb (labelIn t from) byte) refl none (missing many (from + 1) (omega arith)) (eq-or-ne i from)

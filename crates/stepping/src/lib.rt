@@ -22,7 +22,7 @@ pub fn children_end(t: &[u8], states: usize, state: State) -> usize
 }
 
 // The first state from one number up to, without, another whose label is the byte; the root where there is none.
-fn labelled(t: &[u8], byte: u8, from: usize, to: usize) -> State
+pub fn labelled(t: &[u8], byte: u8, from: usize, to: usize) -> State
     requires { ⌜ (Whole (now t)) × (to ≤ roomForStates) ⌝ }
     ensures { λ r. ⌜ (r .0 ≡ labelledIn (now (t .entry)) byte (to - from) from) × (r .0 ≤ to - 1) ⌝ }
 {

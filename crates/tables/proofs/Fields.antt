@@ -19,7 +19,7 @@ use Rattle.tables.specs.Reads.{delayIn, spanIn, linkIn, rankIn, endsIn, 
 use Rattle.tables.proofs.Fits.{fits}
 use Rattle.tables.proofs.Parts.{field-at, byte-at}
 
-up-to : (count : ℕ) (value : ℕ → ℕ) (j : ℕ) → j < count → upTo count value j ≡ value j
+pub up-to : (count : ℕ) (value : ℕ → ℕ) (j : ℕ) → j < count → upTo count value j ≡ value j
 unfolding upTo
 up-to count value j l = rw (lt-ltb j count l)
 

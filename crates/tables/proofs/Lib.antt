@@ -1,4 +1,5 @@
 pub mod Followed
+pub mod Cells
 pub mod Once
 pub mod Spots
 pub mod Pieces
@@ -7,5 +8,7 @@ pub mod Chains
 pub mod Parts
 pub mod Fields
 pub mod Fits
+pub mod Classes
+pub mod Fast
 pub mod Meant
 pub mod Passing

@@ -6,6 +6,7 @@ use mathlib.Core.List.{List, [], _∷_, List·Memᴰ, List·Memᴰ·head, List·
 use Prim.Native.Nat.{ℕ, zero, suc, _+_, _≤_, _<_}
 use native.Mathlib.Omega.{arith}
 use lib.Dec.{leb, eqb}
+use borrow.Author.Tests.{le-leb, lt-leb}
 use Rattle.meaning.specs.Books.{Book}
 use Rattle.format.specs.Limits.{Within}
 use Rattle.numbering.specs.States.{stateCount, stateAt, failureIn}
@@ -14,13 +15,14 @@ use Rattle.numbering.proofs.Steps.{failureIn-smaller, failureIn-root}
 use Rattle.tables.specs.Regions.{Laid}
 use Rattle.tables.specs.Spots.{Spot, none-left, spotAt, spotCount}
 use Rattle.tables.specs.Endings.{endings, keywordOf, behind, linkTo, headOf, someIn, linkOf, chain}
-use Rattle.tables.specs.Layout.{roomForPieces, infoOf, outOf, spotEnds, endsOf, tablesLayout}
+use Rattle.tables.specs.Layout.{roomForPieces, gainOf, endingMark, infoOf, outOf, spotEnds, endsOf, tablesLayout}
 use Rattle.tables.specs.Reads.{endingIn, firstLinkIn, backIn, onwardIn, saysLast, saysFirst, lastIn, firstIn}
 use Rattle.tables.proofs.Followed.{back-fail, back-root, onward-link}
 use Rattle.tables.proofs.Fits.{fits}
 use Rattle.tables.proofs.Endings.{endings-iff, endings-few}
 use Rattle.tables.proofs.Chains.{leads-same, endings-lead, chain-list}
 use Rattle.tables.proofs.Fields.{info-laid, out-laid, fail-laid, link-laid, ends-laid}
+use Rattle.tables.proofs.Fast.{gain-few}
 
 -- Whatever comes behind, a link leads to a piece of the list.
 link-below : (n p : ℕ) (l : List ℕ) → ((q : ℕ) → List·Memᴰ q l → q < n) → linkTo (behind p l) ≤ n
@@ -58,12 +60,12 @@ module _ (book : Book) (within : Within book) (t : List ℕ) (laid : Laid (table
         go (suc k) e = back-fail t i (omega (arith, fail-laid book within t laid i inside, failureIn-smaller book (within-bytes book within) i (omega arith) inside)) ∙ fail-laid book within t laid i inside
 
     pub ending-laid : endingIn t i ≡ someIn (endings book (stateAt book i))
-    unfolding endingIn infoOf
-    ending-laid = ap (leb 128) (info-laid book within t laid i inside) ∙ go (someIn (endings book (stateAt book i)))
+    unfolding endingIn infoOf endingMark
+    ending-laid = ap (leb 128) (info-laid book within t laid i inside) ∙ go (someIn (endings book (stateAt book i))) (gainOf book i) (gain-few book within i inside)
       where
-        go : (v : Bool) → leb 128 (cond v 128 0) ≡ v
-        go true = refl
-        go false = refl
+        go : (v : Bool) (gain : ℕ) → gain ≤ 33 → leb 128 (gain + cond v 128 0) ≡ v
+        go true gain few = le-leb 128 (gain + 128) (omega arith)
+        go false gain few = lt-leb 128 (gain + 0) (omega arith)
 
     pub first-link-laid : firstLinkIn t i ≡ linkTo (endings book (stateAt book i))
     unfolding firstLinkIn outOf someIn headOf linkTo

@@ -22,11 +22,13 @@ use Rattle.tables.specs.Regions.{Laid}
 use Rattle.tables.specs.Spots.{spotCount}
 use Rattle.tables.specs.Endings.{keywordOf}
 use Rattle.tables.specs.Layout.{tablesSize, tagAt, roomForStates, roomForPieces, roomForPhrases, tablesTag, tablesLayout}
-use Rattle.tables.specs.Reads.{stateCountIn, pieceCountIn, phraseCountIn}
+use Rattle.tables.specs.Reads.{stateCountIn, denseIn, pieceCountIn, phraseCountIn}
 use Rattle.tables.specs.Passing.{TablesPass, between, tablesPass}
 use Rattle.tables.proofs.Spots.{placed}
 use Rattle.tables.proofs.Fits.{fits}
 use Rattle.tables.proofs.Parts.{number-zero}
+use Rattle.tables.proofs.Classes.{dense-range}
+use Rattle.tables.proofs.Fast.{dense-laid}
 use Rattle.tables.proofs.Fields.{tag-laid, state-count-laid, piece-count-laid, phrase-count-laid}
 
 -- ── One test after the other ──
@@ -55,13 +57,18 @@ module _ (t : List ℕ) where
       pass-states h = rw (le-leb 49152 (length t) long, eq-eqb (numberAt 8 t tagAt) tablesTag tag, h)
 
       module _ (states : So (between 2 roomForStates (stateCountIn t))) where
-        pub pass-pieces : between 1 roomForPieces (pieceCountIn t) ≡ false → tablesPass t ≡ false
+        pub pass-dense : between 1 (stateCountIn t) (denseIn t) ≡ false → tablesPass t ≡ false
         unfolding tablesPass tablesSize
-        pass-pieces h = rw (le-leb 49152 (length t) long, eq-eqb (numberAt 8 t tagAt) tablesTag tag, states, h)
+        pass-dense h = rw (le-leb 49152 (length t) long, eq-eqb (numberAt 8 t tagAt) tablesTag tag, states, h)
 
-        pub pass-phrases : So (between 1 roomForPieces (pieceCountIn t)) → tablesPass t ≡ between 1 roomForPhrases (phraseCountIn t)
-        unfolding tablesPass tablesSize
-        pass-phrases h = rw (le-leb 49152 (length t) long, eq-eqb (numberAt 8 t tagAt) tablesTag tag, states, h)
+        module _ (dense : So (between 1 (stateCountIn t) (denseIn t))) where
+          pub pass-pieces : between 1 roomForPieces (pieceCountIn t) ≡ false → tablesPass t ≡ false
+          unfolding tablesPass tablesSize
+          pass-pieces h = rw (le-leb 49152 (length t) long, eq-eqb (numberAt 8 t tagAt) tablesTag tag, states, dense, h)
+
+          pub pass-phrases : So (between 1 roomForPieces (pieceCountIn t)) → tablesPass t ≡ between 1 roomForPhrases (phraseCountIn t)
+          unfolding tablesPass tablesSize
+          pass-phrases h = rw (le-leb 49152 (length t) long, eq-eqb (numberAt 8 t tagAt) tablesTag tag, states, dense, h)
 
 -- ── What passes ──
 
@@ -80,18 +87,21 @@ pass-iff t = (
       let b = and-eq-true-iff _ _ .0 (a .1) in
       let c = and-eq-true-iff _ _ .0 (b .1) in
       let d = and-eq-true-iff _ _ .0 (c .1) in
+      let e = and-eq-true-iff _ _ .0 (d .1) in
       record {
         long = leb-true tablesSize (length t) (a .0);
         tag = eqb-true (numberAt 8 t tagAt) tablesTag (b .0);
         states = between-iff 2 roomForStates (stateCountIn t) .0 (c .0);
-        pieces = between-iff 1 roomForPieces (pieceCountIn t) .0 (d .0);
-        phrases = between-iff 1 roomForPhrases (phraseCountIn t) .0 (d .1);
+        dense = between-iff 1 (stateCountIn t) (denseIn t) .0 (d .0);
+        pieces = between-iff 1 roomForPieces (pieceCountIn t) .0 (e .0);
+        phrases = between-iff 1 roomForPhrases (phraseCountIn t) .0 (e .1);
       },
   λ h. both _ _ (le-leb tablesSize (length t) (h .long))
       (both _ _ (eq-eqb (numberAt 8 t tagAt) tablesTag (h .tag))
       (both _ _ (between-iff 2 roomForStates (stateCountIn t) .1 (h .states))
+      (both _ _ (between-iff 1 (stateCountIn t) (denseIn t) .1 (h .dense))
       (both _ _ (between-iff 1 roomForPieces (pieceCountIn t) .1 (h .pieces))
-      (between-iff 1 roomForPhrases (phraseCountIn t) .1 (h .phrases))))),
+      (between-iff 1 roomForPhrases (phraseCountIn t) .1 (h .phrases)))))),
 )
 
 -- A book within the limits has a piece, and with its keyword a state that is not empty.
@@ -121,6 +131,7 @@ module _ (book : Book) (within : Within book) where
     long = long;
     tag = tag-laid book within t laid;
     states = rw (state-count-laid book within t laid) (two-states, fits book within .states);
+    dense = rw (state-count-laid book within t laid, dense-laid book within t laid) (dense-range book);
     pieces = rw (piece-count-laid book within t laid) (some-piece, fits book within .pieces);
     phrases = rw (phrase-count-laid book within t laid) (within .some, fits book within .phrases);
   })

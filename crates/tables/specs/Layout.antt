@@ -1,16 +1,18 @@
 -- The table memory of a book: every byte of it, region by region. Assumes nothing: these are definitions.
 use mathlib.Core.Bool.{cond}
 use mathlib.Core.List.{List, [], _∷_}
-use Prim.Native.Nat.{ℕ, _+_, _-_, _*_, _%_, _≤_}
+use Prim.Native.Nat.{ℕ, zero, suc, min, _+_, _-_, _*_, _/_, _%_, _≤_}
 use lib.Dec.{ltb}
 use lib.ListN.{length, getD}
 use Rattle.meaning.specs.Books.{Gap, bounded, openFrom, Book}
+use Rattle.meaning.specs.Automaton.{isState, depth, parent}
 use Rattle.meaning.specs.Windows.{delay}
 use Rattle.format.specs.Written.{written}
-use Rattle.numbering.specs.States.{stateCount, stateAt, firstChild, lastByte, failureIn}
+use Rattle.numbering.specs.States.{byteValues, stateCount, stateAt, firstChild, lastByte, failureIn, stepBy}
 use Rattle.tables.specs.Regions.{Part, Region}
 use Rattle.tables.specs.Spots.{Spot, none-left, spotCount, spotAt, noPhrase}
 use Rattle.tables.specs.Endings.{endings, headOf, someIn, linkOf}
+use Rattle.tables.specs.Classes.{occurring, classOf, classCount}
 
 -- The published size.
 unfoldable pub tablesSize : ℕ
@@ -93,7 +95,7 @@ pub record Fits (book : Book) : Type 0 where
 
 -- The first bytes of built tables; they are never zero.
 unfoldable pub tablesTag : ℕ
-tablesTag = 0x3130454c42415454
+tablesTag = 0x3230454c42415454
 
 -- An entry for each number below a count, and 0 from there on.
 unfoldable pub upTo : ℕ → (ℕ → ℕ) → ℕ → ℕ
@@ -111,10 +113,23 @@ unfoldable pub bookMark : Book → ℕ
 unfolding markFrom
 bookMark book = markFrom 0 (written book)
 
--- The mark 128 in a state's info: some keyword is a suffix of the state.
-unfoldable pub infoOf : Book → ℕ → ℕ
+-- How many nonempty states are suffixes of the state: so many failures lead from it to the empty one.
+unfoldable pub depthOf : Book → ℕ → ℕ
+depthOf book i = depth (isState book) (stateAt book i)
+
+-- A byte more adds at most one to the depth: how much less than one it grew from the state's parent to the state. The empty state is
+-- its own parent.
+unfoldable pub gainOf : Book → ℕ → ℕ
+gainOf book i = 1 + depth (isState book) (parent (stateAt book i)) - depth (isState book) (stateAt book i)
+
+-- The mark 128: some keyword is a suffix of the state.
+unfoldable pub endingMark : Book → ℕ → ℕ
 unfolding someIn endings
-infoOf book i = cond (someIn (endings book (stateAt book i))) 128 0
+endingMark book i = cond (someIn (endings book (stateAt book i))) 128 0
+
+-- What a state's info says: both in one byte.
+unfoldable pub infoOf : Book → ℕ → ℕ
+infoOf book i = gainOf book i + endingMark book i
 
 -- The lowest piece of the longest keyword that is a suffix of the state.
 unfoldable pub outOf : Book → ℕ → ℕ
@@ -156,6 +171,25 @@ numberOfRank book j = getD (book .phrases) j noPhrase .number
 unfoldable pub rightsOfRank : Book → ℕ → ℕ
 rightsOfRank book j = getD (book .phrases) j noPhrase .rights
 
+-- ── Rows and columns ──
+
+-- How many states have a row, from the empty one on: all, or as many as there is room for.
+unfoldable pub denseCount : Book → ℕ
+denseCount book = min (stateCount book) (roomForCells / classCount book)
+
+-- Where the column of a byte begins: cells stand column by column, one column for each class.
+unfoldable pub columnOf : Book → ℕ → ℕ
+columnOf book byte = rowsAt + 2 * (denseCount book * classOf book byte)
+
+-- The next state from state i by the bytes of a class. A byte that does not occur leads to the empty state.
+unfoldable pub nextByClass : Book → ℕ → ℕ → ℕ
+nextByClass book i zero = 0
+nextByClass book i (suc class) = stepBy book i (getD (occurring book) class 0) .at
+
+-- Cell j: a column has one cell for each state with a row.
+unfoldable pub cellOf : Book → ℕ → ℕ
+cellOf book j = nextByClass book (j % denseCount book) (j / denseCount book)
+
 -- ── The layout ──
 
 abbrev pub number : ℕ → (ℕ → ℕ) → Part
@@ -169,15 +203,15 @@ unfoldable pub tablesLayout : Book → List Region
 tablesLayout book =
     region tagAt 1 (number 8 (always tablesTag) ∷ [])
     ∷ region statesAt 1 (number 2 (always (stateCount book)) ∷ [])
-    ∷ region denseAt 1 (number 2 (always 0) ∷ [])
+    ∷ region denseAt 1 (number 2 (always (denseCount book)) ∷ [])
     ∷ region piecesAt 1 (number 2 (always (spotCount book)) ∷ [])
     ∷ region phrasesAt 1 (number 2 (always (length (book .phrases))) ∷ [])
     ∷ region markAt 1 (number 8 (always (bookMark book)) ∷ [])
     ∷ region spareAt 1 (number 8 (always 0) ∷ [])
-    ∷ region columnAt 256 (number 2 (always 0) ∷ [])
+    ∷ region columnAt byteValues (number 2 (columnOf book) ∷ [])
     ∷ region infoAt roomForStates (number 1 (upTo (stateCount book) (infoOf book)) ∷ [])
     ∷ region outAt roomForStates (number 1 (upTo (stateCount book) (outOf book)) ∷ [])
-    ∷ region depthAt roomForStates (number 1 (always 0) ∷ [])
+    ∷ region depthAt roomForStates (number 1 (upTo (stateCount book) (depthOf book)) ∷ [])
     ∷ region labelAt roomForStates (number 1 (upTo (stateCount book) (labelOf book)) ∷ [])
     ∷ region failAt roomForStates (number 2 (upTo (stateCount book) (failureIn book)) ∷ [])
     ∷ region childAt (roomForStates + 1) (number 2 (upTo (stateCount book + 1) (firstChild book)) ∷ [])
@@ -191,5 +225,5 @@ tablesLayout book =
     (number 2 (upTo (length (book .phrases)) (numberOfRank book))
     ∷ number 1 (upTo (length (book .phrases)) (rightsOfRank book))
     ∷ number 1 (always 0) ∷ [])
-    ∷ region rowsAt roomForCells (number 2 (always 0) ∷ [])
+    ∷ region rowsAt roomForCells (number 2 (upTo (denseCount book * classCount book) (cellOf book)) ∷ [])
     ∷ []

@@ -9,13 +9,14 @@ use lib.ListN.{length}
 use Rattle.lent.specs.Numbers.{numberAt}
 use Rattle.format.specs.Limits.{Between}
 use Rattle.tables.specs.Layout.{tablesSize, tagAt, roomForStates, roomForPieces, roomForPhrases, tablesTag}
-use Rattle.tables.specs.Reads.{stateCountIn, pieceCountIn, phraseCountIn}
+use Rattle.tables.specs.Reads.{stateCountIn, denseIn, pieceCountIn, phraseCountIn}
 
 -- The lent bytes pass: they are as many as published, begin with the tag of built tables, and have their counts in range.
 pub record TablesPass (t : List ℕ) : Type 0 where
   pub long : tablesSize ≤ length t
   pub tag : numberAt 8 t tagAt ≡ tablesTag
   pub states : Between 2 roomForStates (stateCountIn t)
+  pub dense : Between 1 (stateCountIn t) (denseIn t)
   pub pieces : Between 1 roomForPieces (pieceCountIn t)
   pub phrases : Between 1 roomForPhrases (phraseCountIn t)
 
@@ -29,5 +30,6 @@ tablesPass t =
     leb tablesSize (length t)
     && (eqb (numberAt 8 t tagAt) tablesTag
     && (between 2 roomForStates (stateCountIn t)
+    && (between 1 (stateCountIn t) (denseIn t)
     && (between 1 roomForPieces (pieceCountIn t)
-    && between 1 roomForPhrases (phraseCountIn t))))
+    && between 1 roomForPhrases (phraseCountIn t)))))

@@ -5,7 +5,8 @@ use Prim.Native.Nat.{ℕ, _+_, _*_, _/_, _%_, _≤_}
 use lib.Dec.{ltb, leb, eqb}
 use lib.ListN.{length, getD}
 use Rattle.lent.specs.Numbers.{numberAt}
-use Rattle.tables.specs.Layout.{statesAt, piecesAt, phrasesAt, markAt, infoAt, outAt, labelAt, failAt, childAt, pieceAt, phraseAt, roomForPieces}
+use Rattle.tables.specs.Layout.{statesAt, denseAt, piecesAt, phrasesAt, markAt, columnAt, infoAt, outAt, depthAt, labelAt, failAt, childAt}
+use Rattle.tables.specs.Layout.{pieceAt, phraseAt, roomForPieces}
 
 -- The lent bytes hold table memory of the published size. The number stands here itself, so that arithmetic sees it.
 abbrev pub Whole : List ℕ → Type 0
@@ -16,6 +17,10 @@ Whole t = 49152 ≤ length t
 abbrev pub stateCountIn : List ℕ → ℕ
 stateCountIn t = numberAt 2 t statesAt
 
+-- How many states have a row.
+abbrev pub denseIn : List ℕ → ℕ
+denseIn t = numberAt 2 t denseAt
+
 abbrev pub pieceCountIn : List ℕ → ℕ
 pieceCountIn t = numberAt 2 t piecesAt
 
@@ -25,10 +30,27 @@ phraseCountIn t = numberAt 2 t phrasesAt
 abbrev pub markIn : List ℕ → ℕ
 markIn t = numberAt 8 t markAt
 
+-- ── Rows and columns ──
+
+-- Where the column of a byte begins.
+abbrev pub columnIn : List ℕ → ℕ → ℕ
+columnIn t byte = numberAt 2 t (columnAt + 2 * byte)
+
+-- The cell of state i in the column that begins at a place.
+abbrev pub cellIn : List ℕ → ℕ → ℕ → ℕ
+cellIn t column i = numberAt 2 t (column + 2 * i)
+
 -- ── State i ──
 
 abbrev pub infoIn : List ℕ → ℕ → ℕ
 infoIn t i = getD t (infoAt + i) 0
+
+-- The low seven bits of its info.
+abbrev pub gainIn : List ℕ → ℕ → ℕ
+gainIn t i = infoIn t i % 128
+
+abbrev pub depthIn : List ℕ → ℕ → ℕ
+depthIn t i = getD t (depthAt + i) 0
 
 abbrev pub outIn : List ℕ → ℕ → ℕ
 outIn t i = getD t (outAt + i) 0

@@ -48,6 +48,9 @@ pub const ROOM_FOR_PHRASES: usize = 128;
 
 pub const ROOM_FOR_CELLS: usize = 14831;
 
+// How many bytes there are, each with its column.
+pub const BYTE_VALUES: usize = 256;
+
 // An entry of a piece, and where its parts begin in it: the delay comes first.
 pub const PIECE_LENGTH: usize = 8;
 
@@ -67,9 +70,9 @@ pub const RIGHTS: usize = 2;
 // ── What the entries hold ──
 
 // The first bytes of built tables.
-pub const TABLES_TAG: u64 = 0x3130454c42415454;
+pub const TABLES_TAG: u64 = 0x3230454c42415454;
 
-// In a state's info: some keyword is a suffix of the state.
+// In a state's info: some keyword is a suffix of the state. What stands below it is the gain.
 pub const ENDING: u8 = 128;
 
 // The span of an open gap: its window never closes.

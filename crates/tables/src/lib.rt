@@ -1,8 +1,10 @@
 // The table memory: what is read from it, field by field. Every reader is safe on any bytes of the published size.
 ghost use mathlib.Core.Path.{_≡_};
 ghost use Prim.Native.Nat.{_+_, _*_, _≤_, _<_};
+ghost use lib.ListN.{length};
 ghost use Rattle.tables.specs.Layout.{tablesSize, roomForStates, roomForPieces, roomForPhrases};
-ghost use Rattle.tables.specs.Reads.{Whole, stateCountIn, pieceCountIn, phraseCountIn, markIn};
+ghost use Rattle.tables.specs.Reads.{Whole, stateCountIn, denseIn, pieceCountIn, phraseCountIn, markIn};
+ghost use Rattle.tables.specs.Reads.{columnIn, cellIn, depthIn, gainIn};
 ghost use Rattle.tables.specs.Reads.{infoIn, outIn, labelIn, firstChildIn, endingIn, firstLinkIn, backIn};
 ghost use Rattle.tables.specs.Reads.{delayIn, spanIn, linkIn, rankIn, endsIn, onwardIn, lastIn, firstIn};
 ghost use Rattle.tables.specs.Reads.{phraseNumberIn, phraseRightsIn};
@@ -43,6 +45,9 @@ pub fn passes(t: &[u8]) -> bool
     if !between(2, layout::ROOM_FOR_STATES, state_count(t)) {
         return false;
     }
+    if !between(1, state_count(t), dense(t)) {
+        return false;
+    }
     if !between(1, layout::ROOM_FOR_PIECES, piece_count(t)) {
         return false;
     }
@@ -55,6 +60,14 @@ pub fn state_count(t: &[u8]) -> usize
     ensures { λ r. ⌜ (r ≡ stateCountIn (now (t .entry))) × (r < 65536) ⌝ }
 {
     lent::pair_size(lent::get2(t, layout::STATES))
+}
+
+// How many states have a row.
+pub fn dense(t: &[u8]) -> usize
+    requires { ⌜ Whole (now t) ⌝ }
+    ensures { λ r. ⌜ (r ≡ denseIn (now (t .entry))) × (r < 65536) ⌝ }
+{
+    lent::pair_size(lent::get2(t, layout::DENSE))
 }
 
 // How many pieces the book has.
@@ -81,12 +94,44 @@ pub fn mark(t: &[u8]) -> u64
     lent::get8(t, layout::MARK)
 }
 
-// What a state's info says: for now whether some keyword is a suffix of it.
+// Where the column of a byte begins: a column has a cell for each state with a row.
+pub fn column(t: &[u8], byte: u8) -> usize
+    requires { ⌜ Whole (now t) ⌝ }
+    ensures { λ r. ⌜ (r ≡ columnIn (now (t .entry)) byte) × (r < 65536) ⌝ }
+{
+    lent::pair_size(lent::get2(t, layout::COLUMN + 2 * lent::wide_size(byte)))
+}
+
+// The number in a state's cell of the column that begins at a place: the next state. The column is a part of the memory.
+pub fn cell(t: &[u8], column: usize, state: State) -> usize
+    requires { ⌜ column + 2 * state .0 + 2 ≤ length (now t) ⌝ }
+    ensures { λ r. ⌜ (r ≡ cellIn (now (t .entry)) column (state .0)) × (r < 65536) ⌝ }
+{
+    lent::pair_size(lent::get2(&t[column..], 2 * state.index()))
+}
+
+// How many failures lead from a state to the root.
+pub fn depth(t: &[u8], state: State) -> u8
+    requires { ⌜ (Whole (now t)) × (state .0 < roomForStates) ⌝ }
+    ensures { λ r. ⌜ r ≡ depthIn (now (t .entry)) (state .0) ⌝ }
+{
+    t[layout::DEPTH + state.index()]
+}
+
+// What a state's info says: its gain, and whether some keyword is a suffix of it.
 pub fn info(t: &[u8], state: State) -> u8
     requires { ⌜ (Whole (now t)) × (state .0 < roomForStates) ⌝ }
     ensures { λ r. ⌜ r ≡ infoIn (now (t .entry)) (state .0) ⌝ }
 {
     t[layout::INFO + state.index()]
+}
+
+// What a byte into the state leaves of the one that it may add to the depth.
+pub fn gain(t: &[u8], state: State) -> u8
+    requires { ⌜ (Whole (now t)) × (state .0 < roomForStates) ⌝ }
+    ensures { λ r. ⌜ r ≡ gainIn (now (t .entry)) (state .0) ⌝ }
+{
+    info(t, state) % layout::ENDING
 }
 
 // Whether some keyword is a suffix of the state.

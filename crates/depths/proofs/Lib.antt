@@ -1,0 +1,4 @@
+pub mod Turns
+pub mod Deep
+pub mod Gains
+pub mod Right

@@ -1,0 +1,20 @@
+-- The place that is read is that of the state, whose index is its number.
+-- Assumes nothing.
+use borrow.Author.Needs.{needs}
+use Rattle.tables.proofs.depth.Statement.{statement}
+use Rattle.tables.proofs.depth.Tie as tie
+
+index-requires : tie.Need-index-requires
+index-requires c κs = search needs
+
+add-result : tie.Need-add-result
+add-result c = search needs
+
+shared-slice-read-result : tie.Need-shared-slice-read-result
+shared-slice-read-result c = search needs
+
+returns : tie.Need-returns
+returns c = cc
+
+pub depth-spec : {M : Type 1} → statement M
+depth-spec = tie.close (tie.spec index-requires add-result shared-slice-read-result returns)
