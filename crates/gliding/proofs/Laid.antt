@@ -17,7 +17,7 @@ use Rattle.format.specs.Limits.{All, Bytes, Within}
 use Rattle.numbering.specs.States.{byteValues, stateCount, stateAt, numberIn, stepBy}
 use Rattle.numbering.specs.Walks.{Landed}
 use Rattle.numbering.proofs.Keywords.{within-bytes, state-byte}
-use Rattle.numbering.proofs.States.{number-below, number-empty}
+use Rattle.numbering.proofs.States.{number-below, stateAt-number, number-empty}
 use Rattle.numbering.proofs.Steps.{stepBy-inside}
 use Rattle.tables.specs.Regions.{Laid}
 use Rattle.tables.specs.Classes.{occurs}
@@ -89,10 +89,30 @@ module _ (book : Book) (within : Within book) (t : List ℕ) (laid : Laid (table
     pub quick-after : quickIn t (stateCountIn t) (denseIn t) before byte ≡ now
     quick-after = quick-right before byte inside ∙ ap (λ (r : Landed). r .at) stepped
 
-    -- The steps of the byte, the gain of the state after it, and its depth are one more than the depth before.
-    pub steps-paid : stepsFor (isState book) (after (isState book) letter) byte + gainIn t now + depthIn t now ≡ depthIn t before + 1
-    steps-paid =
-        let there : now < stateCount book = number-below book bytes (after (isState book) (letter ++ byte ∷ [])) (after-state (isState book) (isState-closed book .empty) (letter ++ byte ∷ [])) in
-        let paid : stepsFor (isState book) (after (isState book) letter) byte + gainOf book now + depthOf book now ≡ depthOf book before + 1
-        = rw stepped at (gain-step book within before byte) in
-        omega (arith, paid, gain-laid book within t laid now there, depth-laid book within t laid now there, depth-laid book within t laid before inside)
+  -- ── Depths ──
+
+  -- The depth of the state after a letter.
+  pub depth-after : (letter : List ℕ) → depthIn t (numberIn book (after (isState book) letter)) ≡ depth (isState book) (after (isState book) letter)
+  unfolding depthOf
+  depth-after letter =
+      let state : So (isState book (after (isState book) letter)) = after-state (isState book) (isState-closed book .empty) letter in
+      depth-laid book within t laid (numberIn book (after (isState book) letter)) (number-below book bytes (after (isState book) letter) state)
+      ∙ ap (depth (isState book)) (stateAt-number book bytes (after (isState book) letter) state)
+
+  -- The steps of the byte, the gain of the state after it, and its depth are one more than the depth before.
+  pub steps-paid : (letter : List ℕ) (byte : ℕ)
+      → stepsFor (isState book) (after (isState book) letter) byte + gainIn t (numberIn book (after (isState book) (letter ++ byte ∷ [])))
+      + depth (isState book) (after (isState book) (letter ++ byte ∷ [])) ≡ depth (isState book) (after (isState book) letter) + 1
+  steps-paid letter byte =
+      let there : now letter byte < stateCount book = inside (letter ++ byte ∷ []) byte in
+      let paid : stepsFor (isState book) (after (isState book) letter) byte + gainOf book (now letter byte) + depthOf book (now letter byte) ≡ depthOf book (before letter byte) + 1
+      = rw (stepped letter byte) at (gain-step book within (before letter byte) byte) in
+      omega (
+        arith,
+        paid,
+        gain-laid book within t laid (now letter byte) there,
+        depth-laid book within t laid (now letter byte) there,
+        depth-laid book within t laid (before letter byte) (inside letter byte),
+        depth-after letter,
+        depth-after (letter ++ byte ∷ []),
+      )

@@ -1,5 +1,5 @@
 -- The quiet loop: bytes are taken until something happens. Assumes nothing: these are definitions.
-use mathlib.Core.Bool.{Bool, true, false, cond, not, _||_}
+use mathlib.Core.Bool.{Bool, true, false, cond, not}
 use mathlib.Core.List.{List, [], _∷_}
 use Prim.Native.Nat.{ℕ, _+_, _*_, _≤_, _<_}
 use lib.Dec.{leb, eqb}
@@ -41,13 +41,18 @@ pub record Glide : Type 0 where
   pub gone : Gone
   pub event : Bool
 
+-- One byte more, and whether the way does not go on after it.
+unfoldable pub oneOn : List ℕ → List ℕ → Gone → ℕ → Glide
+unfolding further goesOn
+oneOn t m gone byte = record { gone = further t gone byte; event = not (goesOn t m gone byte) }
+
 -- Bytes are taken up to the first after which the way does not go on, or up to the last.
 unfoldable pub glideIn : List ℕ → List ℕ → List ℕ → Gone → Glide
-unfolding further goesOn
+unfolding oneOn
 glideIn t m [] gone = record { gone = gone; event = false }
 glideIn t m (byte ∷ rest) gone =
     let on : Glide = glideIn t m rest (further t gone byte) in
-    cond (goesOn t m gone byte) on (record { gone = further t gone byte; event = true })
+    cond (goesOn t m gone byte) on (oneOn t m gone byte)
 
 -- What the code carries along, as the definitions say it.
 abbrev pub goneBy : Way → Gone
@@ -57,16 +62,24 @@ abbrev pub glideOf : Way → Glide
 glideOf way = record { gone = goneBy way; event = way .event }
 
 -- What holds before bytes of a part are taken: the memories have their sizes, the counts of the tables are in range, and so are state, place and gains.
-pub record GlideReady (t m part : List ℕ) (states dense : ℕ) (from : Way) : Type 0 where
+pub record GlideReady (t m part : List ℕ) (from : Way) : Type 0 where
   pub tables : Whole t
   pub memory : WholeRunning m
-  pub counted : states ≡ stateCountIn t
-  pub rows : dense ≡ denseIn t
-  pub few-states : states ≤ roomForStates
-  pub some-dense : 1 ≤ dense
-  pub few-dense : dense ≤ states
-  pub inside : from .state .0 < states
+  pub few-states : stateCountIn t ≤ roomForStates
+  pub some-dense : 1 ≤ denseIn t
+  pub few-dense : denseIn t ≤ stateCountIn t
+  pub inside : from .state .0 < stateCountIn t
   pub within : from .taken ≤ length part
   pub short : length part < 4294967296
   pub early : from .place .0 + length part < 4294967296 + from .taken
   pub few-gains : from .gains ≤ 128 * from .taken
+
+-- What gliding keeps: the state is one of the tables', no more bytes are taken than there are, an event has its byte, the place goes on with the
+-- bytes, and each byte gains less than 128.
+pub record GlideKept (t part : List ℕ) (from to : Way) : Type 0 where
+  pub inside : to .state .0 < stateCountIn t
+  pub within : to .taken ≤ length part
+  pub onward : from .taken ≤ to .taken
+  pub more : to .event ≡ true → from .taken < to .taken
+  pub early : to .place .0 + from .taken ≡ from .place .0 + to .taken
+  pub few-gains : to .gains ≤ 128 * to .taken

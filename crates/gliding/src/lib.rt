@@ -6,7 +6,8 @@ ghost use lib.ListN.{drop};
 ghost use Rattle.tables.specs.Layout.{roomForStates};
 ghost use Rattle.tables.specs.Reads.{Whole};
 ghost use Rattle.running.specs.Reads.{WholeRunning};
-ghost use Rattle.gliding.specs.Glide.{quietAt, glideIn, goneBy, glideOf, GlideReady};
+ghost use Rattle.gliding.specs.Glide.{quietAt, oneOn, glideIn, goneBy, glideOf, GlideReady, GlideKept};
+ghost use Rattle.gliding.specs.Going.{goneTo, goingOf, GoReady, GoKept};
 use counters::Place;
 use counters::State;
 use running::layout::FLAG;
@@ -36,46 +37,95 @@ fn is_quiet(t: &[u8], m: &[u8], state: State, place: Place) -> bool
     m[FLAG + window::slot_of(place)] == 0
 }
 
-// Takes bytes until one leads to no state of the tables, which is then the root, or until something happens, or until none is left.
-pub fn glide(t: &[u8], m: &[u8], part: &[u8], states: usize, dense: usize, from: Way) -> Way
-    requires { ⌜ GlideReady (now t) (now m) (now part) states dense from ⌝ }
-    ensures { λ r. ⌜ glideOf r ≡ glideIn (now (t .entry)) (now (m .entry)) (drop (from .taken) (now (part .entry))) (goneBy from) ⌝ }
+// The same as the way, with the index of the state: the loop keeps it in one register from byte to byte.
+struct Going {
+    index: usize,
+    place: Place,
+    taken: usize,
+    gains: u64,
+    event: bool,
+}
+
+// One byte more.
+fn go_on(t: &[u8], m: &[u8], states: usize, dense: usize, from: Going, byte: u8) -> Going
+    requires { ⌜ GoReady (now t) (now m) states dense from ⌝ }
+    ensures { λ r. ⌜ (goingOf r ≡ oneOn (now (t .entry)) (now (m .entry)) (goneTo from) byte) × (GoKept states from r) ⌝ }
 {
-    let mut state = from.state.index();
-    let mut place = from.place;
-    let mut taken = from.taken;
-    let mut gains = from.gains;
-    while taken < part.len() {
-        let next = sought(t, states, dense, state, part[taken]);
-        place = place.next();
-        taken += 1;
-        if states <= next {
-            let root = State::root();
-            return Way {
-                state: root,
-                place,
-                taken,
-                gains: gains + lent::wide64(tables::gain(t, root)),
-                event: true,
-            };
-        }
-        state = next;
-        gains += lent::wide64(tables::gain(t, quick::state_at(state)));
-        if !is_quiet(t, m, quick::state_at(state), place) {
-            return Way {
-                state: quick::state_at(state),
-                place,
-                taken,
-                gains,
-                event: true,
-            };
-        }
+    let next = sought(t, states, dense, from.index, byte);
+    let place = from.place.next();
+    let taken = from.taken + 1;
+    if states <= next {
+        return Going {
+            index: 0,
+            place,
+            taken,
+            gains: from.gains + lent::wide64(tables::gain(t, State::root())),
+            event: true,
+        };
     }
-    Way {
-        state: quick::state_at(state),
+    let gains = from.gains + lent::wide64(tables::gain(t, quick::state_at(next)));
+    if is_quiet(t, m, quick::state_at(next), place) {
+        return Going {
+            index: next,
+            place,
+            taken,
+            gains,
+            event: false,
+        };
+    }
+    Going {
+        index: next,
         place,
         taken,
         gains,
-        event: false,
+        event: true,
     }
+}
+
+fn way_to(going: Going) -> Way
+    requires { ⌜ going .index < roomForStates ⌝ }
+    ensures { λ r. ⌜ glideOf r ≡ goingOf going ⌝ }
+{
+    let place = going.place;
+    Way {
+        state: quick::state_at(going.index),
+        place,
+        taken: going.taken,
+        gains: going.gains,
+        event: going.event,
+    }
+}
+
+// Takes bytes until one leads to no state of the tables, which is then the root, or until something happens, or until none is left. It
+// takes two in a turn: so it is long enough to stay a function of its own, with its numbers in registers.
+pub fn glide(t: &[u8], m: &[u8], part: &[u8], from: Way) -> Way
+    requires { ⌜ GlideReady (now t) (now m) (now part) from ⌝ }
+    ensures { λ r. ⌜ (glideOf r ≡ glideIn (now (t .entry)) (now (m .entry)) (drop (from .taken) (now (part .entry))) (goneBy from)) × (GlideKept (now (t .entry)) (now (part .entry)) from r) ⌝ }
+{
+    let states = tables::state_count(t);
+    let dense = tables::dense(t);
+    let place = from.place;
+    let mut going = Going {
+        index: from.state.index(),
+        place,
+        taken: from.taken,
+        gains: from.gains,
+        event: false,
+    };
+    while going.taken < part.len() {
+        let at = going.taken;
+        going = go_on(t, m, states, dense, going, part[at]);
+        if going.event {
+            return way_to(going);
+        }
+        let next = going.taken;
+        if part.len() <= next {
+            return way_to(going);
+        }
+        going = go_on(t, m, states, dense, going, part[next]);
+        if going.event {
+            return way_to(going);
+        }
+    }
+    way_to(going)
 }
