@@ -1,6 +1,7 @@
 -- The quiet loop in rest form: what gliding over the rest of the part comes to from here is what it comes to from the start.
 -- Assumes nothing.
 use mathlib.Core.Path.{_≡_, refl, sym, ap, ap₂, _∙_}
+use mathlib.Core.Logic.{⊎-elim}
 use mathlib.Core.Bool.{Bool, true, false, cond, not, false≢true}
 use mathlib.Core.List.{List, [], _∷_}
 use Prim.Native.Nat.{ℕ, suc, _+_, _*_, _≤_, _<_}
@@ -10,6 +11,7 @@ use lib.Dec.{leb}
 use lib.ListN.{length, getD, drop}
 use lib.Seq.{drop-cons, drop-length}
 use borrow.Author.Tests.{lt-ltb, le-ltb, le-leb, lt-leb}
+use Rattle.lent.proofs.Cases.{lt-or-le}
 use Rattle.tables.specs.Reads.{stateCountIn, denseIn, gainIn}
 use Rattle.gliding.specs.Quick.{soughtIn, quickIn}
 use Rattle.gliding.specs.Glide.{Gone, further, quietAt, goesOn, Glide, oneOn, glideIn, glideOf, GlideKept}
@@ -25,6 +27,13 @@ module _ (t : List ℕ) (states dense i byte : ℕ) where
   pub quick-stray : states ≤ soughtIn t states dense i byte → quickIn t states dense i byte ≡ 0
   unfolding quickIn
   quick-stray l = rw (le-ltb (soughtIn t states dense i byte) states l)
+
+  -- Whatever the bytes are, it is one of the states.
+  pub quick-inside : 0 < states → quickIn t states dense i byte < states
+  quick-inside some = ⊎-elim
+      (λ (l : soughtIn t states dense i byte < states). rw (quick-found l) l)
+      (λ (l : states ≤ soughtIn t states dense i byte). rw (quick-stray l) some)
+      (lt-or-le (soughtIn t states dense i byte) states)
 
 -- ── One byte ──
 
@@ -86,6 +95,14 @@ module _ (t m : List ℕ) (gone : Gone) (byte : ℕ) where
 
   -- ── Gliding on from the byte ──
 
+  pub on-goes : oneOn t m gone byte .event ≡ false → goesOn t m gone byte ≡ true
+  unfolding oneOn
+  on-goes e = un-not (goesOn t m gone byte) e
+    where
+      un-not : (v : Bool) → not v ≡ false → v ≡ true
+      un-not true h = refl
+      un-not false h = absurd (false≢true (sym h))
+
   pub glide-stops : (rest : List ℕ) → oneOn t m gone byte .event ≡ true → glideIn t m (byte ∷ rest) gone ≡ oneOn t m gone byte
   unfolding glideIn oneOn
   glide-stops rest e = rw (un-not (goesOn t m gone byte) e)
@@ -96,11 +113,7 @@ module _ (t m : List ℕ) (gone : Gone) (byte : ℕ) where
 
   pub glide-on : (rest : List ℕ) → oneOn t m gone byte .event ≡ false → glideIn t m (byte ∷ rest) gone ≡ glideIn t m rest (oneOn t m gone byte .gone)
   unfolding glideIn oneOn
-  glide-on rest e = rw (un-not (goesOn t m gone byte) e)
-    where
-      un-not : (v : Bool) → not v ≡ false → v ≡ true
-      un-not true h = refl
-      un-not false h = absurd (false≢true (sym h))
+  glide-on rest e = rw (on-goes e)
 
 -- ── The loop ──
 
