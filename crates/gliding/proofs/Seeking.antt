@@ -10,7 +10,7 @@ use borrow.Author.Tests.{lt-ltb, le-ltb, le-leb, lt-leb, eq-eqb, ne-eqb, ltb-fal
 use Rattle.tables.specs.Reads.{columnIn, cellIn, backIn}
 use Rattle.tables.proofs.Followed.{back-below}
 use Rattle.stepping.specs.Steps.{childByIn}
-use Rattle.gliding.specs.Quick.{lastColumn, hasColumn, rowIn, soughtWithin, soughtIn}
+use Rattle.gliding.specs.Quick.{lastColumn, hasColumn, rowIn, rowsEnd, soughtWithin, soughtIn}
 
 -- The number at which the walk goes on is that of the failure, and smaller.
 pub smaller : (t : List ℕ) (from state back next : ℕ) → 0 < from → state ≡ from → back ≡ backIn t state → next ≡ back → (next ≡ backIn t from) × (next < from)
@@ -38,16 +38,16 @@ module _ (t : List ℕ) (states dense byte : ℕ) where
 
   within-dense : (most i : ℕ) → i < dense → soughtWithin t states dense (suc most) i byte ≡ rowIn t states dense i byte
   unfolding soughtWithin
-  within-dense most i l = rw (lt-ltb i dense l)
+  within-dense most i l = rw (lt-ltb i (rowsEnd dense) (omega arith))
 
   within-child : (most i : ℕ) → dense ≤ i → (childByIn t states i byte ≡ 0 → ⊥) → soughtWithin t states dense (suc most) i byte ≡ childByIn t states i byte
   unfolding soughtWithin
-  within-child most i l some = rw (le-ltb i dense l, ne-eqb (childByIn t states i byte) 0 some)
+  within-child most i l some = rw (le-ltb i (rowsEnd dense) (omega arith), ne-eqb (childByIn t states i byte) 0 some)
 
   within-back : (most i : ℕ) → dense ≤ i → childByIn t states i byte ≡ 0
       → soughtWithin t states dense (suc most) i byte ≡ soughtWithin t states dense most (backIn t i) byte
   unfolding soughtWithin
-  within-back most i l none = rw (le-ltb i dense l, eq-eqb (childByIn t states i byte) 0 none)
+  within-back most i l none = rw (le-ltb i (rowsEnd dense) (omega arith), eq-eqb (childByIn t states i byte) 0 none)
 
   module _ (some-dense : 1 ≤ dense) where
     -- Looking at more states than there are smaller numbers finds the same.
@@ -55,19 +55,19 @@ module _ (t : List ℕ) (states dense byte : ℕ) where
     unfolding soughtWithin
     within-enough zero g i l h = absurd (omega arith)
     within-enough (suc f) zero i l h = absurd (omega arith)
-    within-enough (suc f) (suc g) i l h = go (ltb i dense) refl (eqb (childByIn t states i byte) 0) (within-enough f g (backIn t i))
+    within-enough (suc f) (suc g) i l h = go (ltb i (rowsEnd dense)) refl (eqb (childByIn t states i byte) 0) (within-enough f g (backIn t i))
       where
         child : ℕ
         child = childByIn t states i byte
 
-        go : (v : Bool) → ltb i dense ≡ v → (w : Bool)
+        go : (v : Bool) → ltb i (rowsEnd dense) ≡ v → (w : Bool)
             → (backIn t i < f → backIn t i < g → soughtWithin t states dense f (backIn t i) byte ≡ soughtWithin t states dense g (backIn t i) byte)
             → cond v (rowIn t states dense i byte) (cond w (soughtWithin t states dense f (backIn t i) byte) child)
             ≡ cond v (rowIn t states dense i byte) (cond w (soughtWithin t states dense g (backIn t i) byte) child)
         go true e w rest = refl
         go false e false rest = refl
         go false e true rest =
-            let smaller : backIn t i < i = back-below t i (omega (arith, ltb-false i dense e)) in
+            let smaller : backIn t i < i = back-below t i (omega (arith, ltb-false i (rowsEnd dense) e)) in
             rest (omega arith) (omega arith)
 
     -- ── All of them ──

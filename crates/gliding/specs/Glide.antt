@@ -25,9 +25,13 @@ further t gone byte =
     let next : ℕ = quickIn t (stateCountIn t) (denseIn t) (gone .state) byte in
     record { state = next; place = gone .place + 1; taken = gone .taken + 1; gains = gone .gains + gainIn t next }
 
+-- What is seen of a slot: its flag, 0 where no window waits in it.
+abbrev pub seenIn : List ℕ → ℕ → ℕ
+seenIn m slot = flagIn m slot
+
 -- Nothing happens once a state is reached at a place: no keyword ends in the state, and no window opens at the place.
 unfoldable pub quietAt : List ℕ → List ℕ → ℕ → ℕ → Bool
-quietAt t m state place = cond (endingIn t state) false (eqb (flagIn m (slotOf place)) 0)
+quietAt t m state place = cond (endingIn t state) false (eqb (seenIn m (slotOf place)) 0)
 
 -- The way goes on after a byte: what was found for it is a state, and nothing happens there.
 unfoldable pub goesOn : List ℕ → List ℕ → Gone → ℕ → Bool

@@ -19,6 +19,10 @@ unfoldable pub rowIn : List ℕ → ℕ → ℕ → ℕ → ℕ → ℕ
 unfolding hasColumn
 rowIn t states dense i byte = cond (hasColumn t dense byte) (cellIn t (columnIn t byte) i) states
 
+-- The states below this number have a row: the dense ones.
+abbrev pub rowsEnd : ℕ → ℕ
+rowsEnd dense = dense
+
 -- From a dense state the row says it. From any other state, which has no row, it is the child by the byte, and where there is none
 -- the same from the failure. So many states are looked at.
 unfoldable pub soughtWithin : List ℕ → ℕ → ℕ → ℕ → ℕ → ℕ → ℕ
@@ -27,7 +31,7 @@ soughtWithin t states dense zero i byte = 0
 soughtWithin t states dense (suc most) i byte =
     let back : ℕ = soughtWithin t states dense most (backIn t i) byte in
     let child : ℕ = childByIn t states i byte in
-    cond (ltb i dense) (rowIn t states dense i byte) (cond (eqb child 0) back child)
+    cond (ltb i (rowsEnd dense)) (rowIn t states dense i byte) (cond (eqb child 0) back child)
 
 -- What is found for the byte from state i on: a failure has a smaller number, so at most i others are looked at.
 unfoldable pub soughtIn : List ℕ → ℕ → ℕ → ℕ → ℕ → ℕ

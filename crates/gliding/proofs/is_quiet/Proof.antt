@@ -1,9 +1,6 @@
 -- The two returns are the two sides of the test on the ending.
 -- Assumes nothing.
-use mathlib.Core.Path.{_≡_, sym, ap, _∙_}
-use lib.Dec.{eqb}
-use Prim.Native.Nat.{ℕ}
-use Rattle.running.specs.Reads.{flagIn}
+use mathlib.Core.Path.{sym, _∙_}
 use Rattle.gliding.proofs.Quiet.{quiet-ending, quiet-flag}
 use borrow.Author.Needs.{needs}
 use Rattle.gliding.proofs.is_quiet.Statement.{statement}
@@ -29,8 +26,7 @@ shared-slice-read-result c = search needs
 returns-2 : tie.Need-returns-2
 returns-2 c =
     let a = c .before .before .before .before .before .before .args in
-    let quiet = quiet-flag (a .t .now) (a .m .now) (a .state .0) (a .place .0) (sym (c .before .before .before .has-ending .ensures) ∙ c .before .before .if1 .left) in
-    sym (quiet ∙ ap (λ (q : ℕ). eqb (flagIn (a .m .now) q) 0) (sym (c .before .slot-of .ensures .0)))
+    sym (quiet-flag (a .t .now) (a .m .now) (a .state .0) (a .place .0) (sym (c .before .before .before .has-ending .ensures) ∙ c .before .before .if1 .left) (c .before .slot-of .result) (c .before .slot-of .ensures .0))
 
 pub is-quiet-spec : {M : Type 1} → statement M
 is-quiet-spec =
