@@ -14,16 +14,16 @@ use borrow.Author.Tests.{ltb-true, ltb-false, le-leb, lt-leb}
 use Rattle.lent.specs.Numbers.{Bytes}
 use Rattle.meaning.specs.Books.{Book}
 use Rattle.meaning.specs.Reports.{Report, reportsAt}
-use Rattle.meaning.specs.Automaton.{isState, after, stepsFor}
+use Rattle.meaning.specs.Automaton.{isState, after, depth}
 use Rattle.meaning.specs.Calls.{reportsAfter, stepsAfter, takes}
 use Rattle.format.specs.Limits.{Within}
 use Rattle.numbering.specs.States.{numberIn}
 use Rattle.tables.specs.Regions.{Laid}
 use Rattle.tables.specs.Layout.{tablesLayout}
-use Rattle.tables.specs.Reads.{stateCountIn, phraseCountIn}
-use Rattle.tables.proofs.Fields.{state-count-laid, phrase-count-laid}
-use Rattle.stepping.specs.Steps.{nextIn}
-use Rattle.stepping.proofs.Laid.{next-after}
+use Rattle.tables.specs.Reads.{stateCountIn, denseIn, phraseCountIn, depthIn, gainIn}
+use Rattle.tables.proofs.Fields.{phrase-count-laid}
+use Rattle.gliding.specs.Quick.{quickIn}
+use Rattle.gliding.proofs.Laid.{quick-after, depth-after, steps-paid}
 use Rattle.marks.specs.Reported.{Reports}
 use Rattle.window.specs.Happened.{happened}
 use Rattle.window.proofs.Happened.{happened-long, happened-few}
@@ -31,7 +31,7 @@ use Rattle.tracking.specs.Places.{Elsewhere}
 use Rattle.tracking.specs.Reports.{withThese}
 use Rattle.tracking.proofs.Step.{elsewhere-step, bytes-step}
 use Rattle.tracking.proofs.Byte.{happened-windows, happened-reports}
-use Rattle.feeding.specs.Taken.{Run, byteTaken, freeAfter, partTaken}
+use Rattle.feeding.specs.Taken.{Run, byteTaken, freeAfter, partTaken, stepsOf, stepsSince}
 use Rattle.feeding.specs.Right.{Stands, Came}
 use Rattle.feeding.proofs.Reports.{these-none, these-append}
 
@@ -52,15 +52,15 @@ module _ (book : Book) (limits : Within book) (t : List ℕ) (laid : Laid (table
       state = state;
       place = suc (length x);
       taken = run .taken + 1;
-      steps = run .steps + stepsFor (isState book) (after (isState book) x) a;
+      gains = run .gains + gainIn t state;
       here = happened t state (suc (length x)) (run .here);
     }
 
     byte-right : byteTaken t run a ≡ next
     unfolding byteTaken
     byte-right =
-        let step : nextIn t (stateCountIn t) (run .state) a ≡ record { at = state; taken = stepsFor (isState book) (after (isState book) x) a } =
-        ap₂ (λ (n i : ℕ). nextIn t n i a) (state-count-laid book limits t laid) (stands .state) ∙ next-after book limits t laid x a in
+        let step : quickIn t (stateCountIn t) (denseIn t) (run .state) a ≡ state =
+        ap (λ (i : ℕ). quickIn t (stateCountIn t) (denseIn t) i a) (stands .state) ∙ quick-after book limits t laid x a in
         let place : run .place + 1 ≡ suc (length x) = omega (arith, stands .place) in
         rw (step, place)
 
@@ -94,7 +94,7 @@ module _ (book : Book) (limits : Within book) (t : List ℕ) (laid : Laid (table
   none-came x part run stands = record {
     stands = rw append-nil stands;
     taken = omega arith;
-    steps = omega arith;
+    steps = rw append-nil (omega arith);
     reports = sym (these-none (run .here .reports));
     elsewhere = λ i there. refl;
     long = refl;
@@ -109,7 +109,12 @@ module _ (book : Book) (limits : Within book) (t : List ℕ) (laid : Laid (table
       record {
         stands = subst (λ (z : List ℕ). Stands book z room to) (append-snoc x a later) (came .stands);
         taken = omega (arith, came .taken);
-        steps = omega (arith, came .steps);
+        steps = omega (
+          arith,
+          came .steps,
+          steps-paid book limits t laid x a,
+          ap (λ (z : List ℕ). depth (isState book) (after (isState book) z)) (append-snoc x a later),
+        );
         reports = came .reports ∙ ap (withThese (reportsAfter book (x ++ a ∷ []) later)) (next-reports x a early run stands)
             ∙ sym (these-append (due x a early run stands) (reportsAfter book (x ++ a ∷ []) later) (run .here .reports));
         elsewhere = λ i there. came .elsewhere i there ∙ next-elsewhere x a early run stands i there;
@@ -156,3 +161,16 @@ module _ (book : Book) (limits : Within book) (t : List ℕ) (laid : Laid (table
               (rec (x ++ a ∷ []) after (next-stands x a soon run stands fits) (rw length-append (omega arith))) in
               subst (λ (r : Run). Came book x (a ∷ part) room (suc count) run (partTaken t room part r)) (sym (byte-right x a soon run stands))
               (more-came x a part run (partTaken t room part after) count soon stands came)
+
+  -- The failure steps of a run that began with none are those of the bytes taken.
+  pub steps-right : (x part : List ℕ) (count : ℕ) (first run : Run) → first .state ≡ numberIn book (after (isState book) x) → first .taken ≡ 0 → first .gains ≡ 0
+      → Came book x part room count first run → stepsSince t (first .state) run ≡ stepsAfter book x (take count part)
+  unfolding stepsOf
+  steps-right x part count first run state none nothing came =
+      omega (
+        arith,
+        came .steps,
+        came .taken,
+        ap (depthIn t) state ∙ depth-after book limits t laid x,
+        ap (depthIn t) (came .stands .state) ∙ depth-after book limits t laid (x ++ take count part),
+      )

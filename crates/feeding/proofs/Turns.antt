@@ -1,95 +1,204 @@
--- The loop in rest form: what the rest of the part comes to from here is what the whole part comes to.
+-- The loop in rest form: once what happens at the last byte is done, what the rest of the part comes to from here is what the whole part comes to.
+-- A quiet byte changes nothing but state, place and counts, so gliding takes the bytes that are taken one by one.
 -- Assumes nothing.
-use mathlib.Core.Path.{_≡_, refl, sym, ap, _∙_}
+use mathlib.Core.Path.{_≡_, refl, sym, ap, ap₂, _∙_}
+use mathlib.Core.Bool.{Bool, true, false, cond}
 use mathlib.Core.List.{List, [], _∷_}
-use Prim.Native.Nat.{ℕ, suc, _+_, _*_, _≤_, _<_}
+use Prim.Native.Nat.{ℕ, zero, suc, _+_, _-_, _*_, _≤_, _<_}
 use native.Mathlib.Numerals.{add-one}
 use native.Mathlib.Omega.{arith}
 use lib.ListN.{length, getD, drop}
 use lib.Seq.{drop-cons, drop-length}
 use borrow.Author.Tests.{lt-ltb, le-ltb}
-use Rattle.numbering.specs.Walks.{Landed}
-use Rattle.tables.specs.Layout.{roomForStates}
 use Rattle.tables.specs.Reads.{stateCountIn, phraseCountIn}
-use Rattle.stepping.specs.Steps.{nextIn}
+use Rattle.gliding.specs.Glide.{Gone, further, Glide, oneOn, glideIn}
+use Rattle.gliding.proofs.Quiet.{quiet-nothing}
+use Rattle.gliding.proofs.Turns.{goes-quiet, on-goes, glide-stops, glide-on}
 use Rattle.window.specs.Happened.{Here, happened}
 use Rattle.window.proofs.Happened.{happened-long, happened-room, happened-few}
-use Rattle.feeding.specs.Taken.{Run, atStart, stepsWith, byteTaken, freeAfter, partTaken}
-use Rattle.feeding.proofs.Steps.{next-inside, next-few}
+use Rattle.feeding.specs.Taken.{Run, atStart, byteTaken, freeAfter, partTaken}
 
--- One byte, put together from the step and from what happens.
-pub byte-taken : (t : List ℕ) (run : Run) (byte : ℕ) (landed : Landed) (place : ℕ) (here : Here)
-    → landed ≡ nextIn t (stateCountIn t) (run .state) byte → place ≡ run .place + 1 → here ≡ happened t (landed .at) place (run .here)
-    → record { state = landed .at; place = place; taken = run .taken + 1; steps = stepsWith (run .steps) landed; here = here } ≡ byteTaken t run byte
-unfolding byteTaken
-byte-taken t run byte landed place here step there what = rw (what, there, step)
+-- The way of a run, and the run that went so far.
+abbrev pub goneOf : Run → Gone
+goneOf run = record { state = run .state; place = run .place; taken = run .taken; gains = run .gains }
 
-pub one-more : (t : List ℕ) (run next : Run) (byte : ℕ) → next ≡ byteTaken t run byte → next .taken ≡ run .taken + 1
-unfolding byteTaken
-one-more t run next byte is = ap (λ (r : Run). r .taken) is
+abbrev pub wentTo : Gone → Here → Run
+wentTo gone here = record { state = gone .state; place = gone .place; taken = gone .taken; gains = gone .gains; here = here }
 
--- What stays true while bytes are taken: of a part, from one run on, towards the run that all of it comes to.
-pub record Taking (t : List ℕ) (room : ℕ) (part : List ℕ) (first whole run : Run) : Type 0 where
-  pub within : run .taken ≤ length part
-  pub few : run .here .reports .written ≤ room
-  pub inside : run .state < stateCountIn t
-  pub early : run .place ≡ first .place + run .taken
-  pub few-steps : run .steps ≤ roomForStates * run .taken
-  pub long : length (run .here .memory) ≡ length (first .here .memory)
-  pub roomy : length (run .here .reports .room) ≡ length (first .here .reports .room)
-  pub rest : partTaken t room (drop (run .taken) part) run ≡ whole
+-- The run once what happens at its place is done.
+abbrev pub done : List ℕ → Run → Run
+done t run = wentTo (goneOf run) (happened t (run .state) (run .place) (run .here))
 
 module _ (t : List ℕ) (room : ℕ) (part : List ℕ) where
-  pub taking-start : (state place : ℕ) (m lent : List ℕ) → state < stateCountIn t
-      → Taking t room part (atStart state place m lent) (partTaken t room part (atStart state place m lent)) (atStart state place m lent)
+  -- What a run comes to: where something is still to be done at its place, that is done, and then the rest of the part is taken.
+  abbrev pub settled : Run → Bool → Run
+  settled run event = cond event (partTaken t room (drop (run .taken) part) (done t run)) run
+
+  -- Where the free room is too small no byte is taken.
+  pub part-full : (rest : List ℕ) (run : Run) → freeAfter room run < phraseCountIn t → partTaken t room rest run ≡ run
   unfolding partTaken
-  taking-start state place m lent inside = record {
-    within = omega arith;
-    few = omega arith;
+  part-full [] run full = refl
+  part-full (byte ∷ rest) run full = rw (lt-ltb (freeAfter room run) (phraseCountIn t) full)
+
+  byte-first : (byte : ℕ) (rest : List ℕ) (run : Run) → phraseCountIn t ≤ freeAfter room run → partTaken t room (byte ∷ rest) run ≡ partTaken t room rest (byteTaken t run byte)
+  unfolding partTaken
+  byte-first byte rest run free = rw (le-ltb (freeAfter room run) (phraseCountIn t) free)
+
+  -- One byte is the way one byte on, and what happens there.
+  byte-done : (run : Run) (byte : ℕ) → byteTaken t run byte ≡ done t (wentTo (oneOn t (run .here .memory) (goneOf run) byte .gone) (run .here))
+  unfolding byteTaken oneOn further
+  byte-done run byte = refl
+
+  -- At a byte after which the way goes on nothing happens.
+  byte-quiet : (run : Run) (byte : ℕ) → oneOn t (run .here .memory) (goneOf run) byte .event ≡ false
+      → byteTaken t run byte ≡ wentTo (oneOn t (run .here .memory) (goneOf run) byte .gone) (run .here)
+  unfolding byteTaken oneOn further
+  byte-quiet run byte e =
+      ap (wentTo (further t (goneOf run) byte))
+      (quiet-nothing t (further t (goneOf run) byte .state) (run .place + 1) (run .here) (goes-quiet t (run .here .memory) (goneOf run) byte (on-goes t (run .here .memory) (goneOf run) byte e)))
+
+  abbrev pub glided : Glide → Here → Run
+  glided g here = settled (wentTo (g .gone) here) (g .event)
+
+  -- A byte after which the way does not go on: what happens there is still to be done.
+  glide-loud : (run : Run) (byte : ℕ) (rest : List ℕ) → rest ≡ drop (run .taken + 1) part → phraseCountIn t ≤ freeAfter room run
+      → oneOn t (run .here .memory) (goneOf run) byte .event ≡ true
+      → partTaken t room (byte ∷ rest) run ≡ glided (glideIn t (run .here .memory) (byte ∷ rest) (goneOf run)) (run .here)
+  unfolding oneOn further
+  glide-loud run byte rest behind free e =
+      let m : List ℕ = run .here .memory in
+      let one : Glide = oneOn t m (goneOf run) byte in
+      let next : Run = wentTo (one .gone) (run .here) in
+      byte-first byte rest run free
+      ∙ ap₂ (partTaken t room) behind (byte-done run byte)
+      ∙ sym (ap (λ (v : Bool). cond v (partTaken t room (drop (run .taken + 1) part) (done t next)) next) e)
+      ∙ sym (ap (λ (g : Glide). glided g (run .here)) (glide-stops t m (goneOf run) byte rest e))
+
+  -- A quiet byte: the rest is glided over from the next place on.
+  glide-quiet : (run : Run) (byte : ℕ) (rest : List ℕ) → rest ≡ drop (run .taken + 1) part → phraseCountIn t ≤ freeAfter room run
+      → oneOn t (run .here .memory) (goneOf run) byte .event ≡ false
+      → ((next : Run) → next .taken ≡ run .taken + 1 → next .here ≡ run .here
+      → partTaken t room (drop (next .taken) part) next ≡ glided (glideIn t (next .here .memory) (drop (next .taken) part) (goneOf next)) (next .here))
+      → partTaken t room (byte ∷ rest) run ≡ glided (glideIn t (run .here .memory) (byte ∷ rest) (goneOf run)) (run .here)
+  unfolding oneOn further
+  glide-quiet run byte rest behind free e later =
+      let m : List ℕ = run .here .memory in
+      let next : Run = wentTo (oneOn t m (goneOf run) byte .gone) (run .here) in
+      byte-first byte rest run free
+      ∙ ap₂ (partTaken t room) behind (byte-quiet run byte e)
+      ∙ later next refl refl
+      ∙ sym (ap (λ (y : List ℕ). glided (glideIn t m y (goneOf next)) (run .here)) behind)
+      ∙ sym (ap (λ (g : Glide). glided g (run .here)) (glide-on t m (goneOf run) byte rest e))
+
+  -- Gliding over the rest of a part, and settling, takes the bytes that are taken one by one: room that is enough stays enough, since a quiet byte
+  -- writes no report.
+  pub glide-part : (n : ℕ) (run : Run) → run .taken + n ≡ length part → phraseCountIn t ≤ freeAfter room run
+      → partTaken t room (drop (run .taken) part) run ≡ glided (glideIn t (run .here .memory) (drop (run .taken) part) (goneOf run)) (run .here)
+  unfolding partTaken glideIn
+  glide-part zero run all free =
+      let end : run .taken ≡ length part = omega arith in
+      none (drop (run .taken) part) (ap (λ (k : ℕ). drop k part) end ∙ drop-length part)
+    where
+      none : (y : List ℕ) → y ≡ [] → partTaken t room y run ≡ glided (glideIn t (run .here .memory) y (goneOf run)) (run .here)
+      none y e = rw e
+  glide-part (suc n) run all free = first (drop (run .taken) part) (drop-cons part (run .taken) 0 (omega arith)) (glide-part n)
+    where
+      byte : ℕ
+      byte = getD part (run .taken) 0
+
+      rest : List ℕ
+      rest = drop (suc (run .taken)) part
+
+      behind : rest ≡ drop (run .taken + 1) part
+      behind = ap (λ (k : ℕ). drop k part) (sym (add-one (run .taken)))
+
+      Glides : List ℕ → Run → Type 0
+      Glides y run = partTaken t room y run ≡ glided (glideIn t (run .here .memory) y (goneOf run)) (run .here)
+
+      onward : (v : Bool) → oneOn t (run .here .memory) (goneOf run) byte .event ≡ v
+          → ((run : Run) → run .taken + n ≡ length part → phraseCountIn t ≤ freeAfter room run → Glides (drop (run .taken) part) run) → Glides (byte ∷ rest) run
+      onward true e rec = glide-loud run byte rest behind free e
+      onward false e rec =
+          glide-quiet run byte rest behind free e (λ next taken same. rec next (omega (arith, taken)) (omega (arith, ap (λ (h : Here). h .reports .written) same)))
+
+      first : (y : List ℕ) → y ≡ byte ∷ rest
+          → ((run : Run) → run .taken + n ≡ length part → phraseCountIn t ≤ freeAfter room run → Glides (drop (run .taken) part) run) → Glides y run
+      first y e rec = rw e (onward (oneOn t (run .here .memory) (goneOf run) byte .event) refl rec)
+
+-- From the first byte of a part.
+pub first-part : (t : List ℕ) (room : ℕ) (part : List ℕ) (state place : ℕ) (m lent : List ℕ) → phraseCountIn t ≤ room
+    → (to : Glide) → to ≡ glideIn t m part (goneOf (atStart state place m lent))
+    → glided t room part to (atStart state place m lent .here) ≡ partTaken t room part (atStart state place m lent)
+first-part t room part state place m lent free to is =
+    ap (λ (g : Glide). glided t room part g (atStart state place m lent .here)) is
+    ∙ sym (glide-part t room part (length part) (atStart state place m lent) (omega arith) (omega arith))
+
+-- ── The loop ──
+
+-- What stays true while bytes are taken: of a part, from one run on, towards the run that all of it comes to. There is room for what may happen
+-- at the place of the run.
+pub record Taking (t : List ℕ) (room : ℕ) (part : List ℕ) (first whole run : Run) (event : Bool) : Type 0 where
+  pub within : run .taken ≤ length part
+  pub few : run .here .reports .written + phraseCountIn t ≤ room
+  pub inside : run .state < stateCountIn t
+  pub early : run .place + first .taken ≡ first .place + run .taken
+  pub few-gains : run .gains ≤ 128 * run .taken
+  pub long : length (run .here .memory) ≡ length (first .here .memory)
+  pub roomy : length (run .here .reports .room) ≡ length (first .here .reports .room)
+  pub rest : settled t room part run event ≡ whole
+
+module _ (t : List ℕ) (room : ℕ) (part : List ℕ) where
+  pub taking-start : (run : Run) (event : Bool) → run .taken ≤ length part → run .here .reports .written + phraseCountIn t ≤ room → run .state < stateCountIn t
+      → run .gains ≤ 128 * run .taken → Taking t room part run (settled t room part run event) run event
+  taking-start run event within few inside gains = record {
+    within = within;
+    few = few;
     inside = inside;
     early = omega arith;
-    few-steps = omega arith;
+    few-gains = gains;
     long = refl;
     roomy = refl;
     rest = refl;
   }
 
-  module _ (first whole run : Run) (taking : Taking t room part first whole run) where
-    turned : (byte : ℕ) (rest : List ℕ) → drop (run .taken) part ≡ byte ∷ rest → phraseCountIn t ≤ freeAfter room run
-        → partTaken t room (drop (run .taken) part) run ≡ partTaken t room rest (byteTaken t run byte)
-    unfolding partTaken
-    turned byte rest e free = rw (e, le-ltb (freeAfter room run) (phraseCountIn t) free)
+  module _ (first whole run : Run) (event : Bool) (taking : Taking t room part first whole run event) where
+    pub taking-end : event ≡ false → run ≡ whole
+    taking-end e = sym (ap (settled t room part run) e) ∙ taking .rest
 
-    pub taking-next : run .taken < length part → phraseCountIn t ≤ freeAfter room run → stateCountIn t ≤ roomForStates
-        → (next : Run) → next ≡ byteTaken t run (getD part (run .taken) 0) → Taking t room part first whole next
-    unfolding byteTaken
-    taking-next more free counted next is =
-        let byte : ℕ = getD part (run .taken) 0 in
-        let landed : Landed = nextIn t (stateCountIn t) (run .state) byte in
-        let place : ℕ = run .place + 1 in
-        rw is (record {
-          within = omega arith;
-          few = omega (arith, happened-few t (landed .at) place (run .here), taking .few);
-          inside = next-inside t (stateCountIn t) (run .state) byte (taking .inside);
-          early = omega (arith, taking .early);
-          few-steps = omega (arith, taking .few-steps, next-few t (stateCountIn t) (run .state) byte (taking .inside));
-          long = happened-long t (landed .at) place (run .here) ∙ taking .long;
-          roomy = happened-room t (landed .at) place (run .here) ∙ taking .roomy;
-          rest = ap (λ (k : ℕ). partTaken t room (drop k part) (byteTaken t run byte)) (add-one (run .taken))
-              ∙ sym (turned byte (drop (suc (run .taken)) part) (drop-cons part (run .taken) 0 more) free) ∙ taking .rest;
-        })
+    -- What happens at the place is done, and the rest follows.
+    module _ (is : event ≡ true) (here : Here) (what : here ≡ happened t (run .state) (run .place) (run .here)) where
+      abbrev after : Run
+      after = wentTo (goneOf run) here
 
-    -- The call stops where the free room is too small, and where no byte remains.
-    pub taking-full : run .taken < length part → freeAfter room run < phraseCountIn t → run ≡ whole
-    unfolding partTaken
-    taking-full more full = sym (stopped (drop (run .taken) part) (drop-cons part (run .taken) 0 more)) ∙ taking .rest
-      where
-        stopped : (y : List ℕ) → y ≡ getD part (run .taken) 0 ∷ drop (suc (run .taken)) part → partTaken t room y run ≡ run
-        stopped y e = rw (e, lt-ltb (freeAfter room run) (phraseCountIn t) full)
+      onward : partTaken t room (drop (run .taken) part) after ≡ whole
+      onward = ap (λ (h : Here). partTaken t room (drop (run .taken) part) (wentTo (goneOf run) h)) what ∙ sym (ap (settled t room part run) is) ∙ taking .rest
 
-    pub taking-end : run .taken ≡ length part → run ≡ whole
-    unfolding partTaken
-    taking-end end = sym (stopped (drop (run .taken) part) (ap (λ (k : ℕ). drop k part) end ∙ drop-length part)) ∙ taking .rest
-      where
-        stopped : (y : List ℕ) → y ≡ [] → partTaken t room y run ≡ run
-        stopped y e = rw e
+      pub few-after : after .here .reports .written ≤ room
+      few-after = omega (arith, ap (λ (h : Here). h .reports .written) what, happened-few t (run .state) (run .place) (run .here), taking .few)
+
+      pub taking-full : freeAfter room after < phraseCountIn t → after ≡ whole
+      taking-full full = sym (part-full t room part (drop (run .taken) part) after full) ∙ onward
+
+      pub taking-next : phraseCountIn t ≤ freeAfter room after → (to : Glide) → to ≡ glideIn t (here .memory) (drop (run .taken) part) (goneOf run)
+          → to .gone .taken ≤ length part → to .gone .state < stateCountIn t → to .gone .place + run .taken ≡ run .place + to .gone .taken
+          → to .gone .gains ≤ 128 * to .gone .taken → Taking t room part first whole (wentTo (to .gone) here) (to .event)
+      taking-next free to glides within inside early gains = record {
+        within = within;
+        few = omega (arith, few-after);
+        inside = inside;
+        early = omega (arith, taking .early);
+        few-gains = gains;
+        long = ap (λ (h : Here). length (h .memory)) what ∙ happened-long t (run .state) (run .place) (run .here) ∙ taking .long;
+        roomy = ap (λ (h : Here). length (h .reports .room)) what ∙ happened-room t (run .state) (run .place) (run .here) ∙ taking .roomy;
+        rest = ap (λ (g : Glide). glided t room part g here) glides
+            ∙ sym (glide-part t room part (length part - run .taken) after (omega (arith, taking .within)) free) ∙ onward;
+      }
+
+-- How much is left to do: no byte is taken twice, and without an event nothing is left.
+unfoldable pub left : ℕ → ℕ → Bool → ℕ
+left offered taken event = cond event (suc (offered - taken)) 0
+
+pub left-less : (offered before after : ℕ) (event : Bool) → before ≤ offered → after ≤ offered → (event ≡ true → before < after) → left offered after event < left offered before true
+unfolding left
+left-less offered before after true within inside more = omega (arith, more refl)
+left-less offered before after false within inside more = omega arith

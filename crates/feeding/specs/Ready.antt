@@ -1,11 +1,11 @@
--- What holds before bytes are taken: the memories have their sizes, the counts of the tables are in range, and so are state and place.
+-- What holds before bytes are taken, and what is kept: the memories have their sizes, the counts of the tables are in range, and so are state and place.
 -- Assumes nothing: these are definitions.
 use mathlib.Core.Path.{_≡_}
 use mathlib.Core.List.{List}
 use Prim.Native.Nat.{ℕ, _+_, _*_, _≤_, _<_}
 use lib.ListN.{length}
 use Rattle.tables.specs.Layout.{roomForStates, roomForPhrases}
-use Rattle.tables.specs.Reads.{Whole, stateCountIn, phraseCountIn}
+use Rattle.tables.specs.Reads.{Whole, stateCountIn, denseIn, phraseCountIn}
 use Rattle.running.specs.Reads.{WholeRunning}
 use Rattle.feeding.specs.declared.Progress.{Progress}
 
@@ -14,19 +14,22 @@ pub record Ready (t m : List ℕ) (offered state place : ℕ) : Type 0 where
   pub tables : Whole t
   pub memory : WholeRunning m
   pub states : stateCountIn t ≤ roomForStates
+  pub some-dense : 1 ≤ denseIn t
+  pub few-dense : denseIn t ≤ stateCountIn t
   pub phrases : phraseCountIn t ≤ roomForPhrases
   pub inside : state < stateCountIn t
   pub early : place + offered < 4294967296
 
--- Before one byte. A byte takes fewer failure steps than there are states.
-pub record ByteReady (t m room : List ℕ) (states : ℕ) (progress : Progress) : Type 0 where
+-- After it: the state is one of the tables', no more bytes were taken than there are, and each gained less than 128.
+pub record Kept (t part : List ℕ) (progress : Progress) : Type 0 where
+  pub inside : progress .state .0 < stateCountIn t
+  pub within : progress .taken ≤ length part
+  pub few-gains : progress .gains ≤ 128 * progress .taken
+
+-- Before the failure steps are counted.
+pub record Countable (t : List ℕ) (first : ℕ) (progress : Progress) : Type 0 where
   pub tables : Whole t
-  pub memory : WholeRunning m
-  pub counted : states ≡ stateCountIn t
-  pub few-states : states ≤ roomForStates
-  pub few-phrases : phraseCountIn t ≤ roomForPhrases
-  pub inside : progress .state .0 < states
-  pub free : 2 * (progress .written + phraseCountIn t) ≤ length room
-  pub early : progress .place .0 + 1 < 4294967296
+  pub from-state : first < roomForStates
+  pub to-state : progress .state .0 < roomForStates
   pub few-taken : progress .taken < 4294967296
-  pub few-steps : progress .steps ≤ roomForStates * progress .taken
+  pub few-gains : progress .gains ≤ 128 * progress .taken

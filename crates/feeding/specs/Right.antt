@@ -5,7 +5,7 @@ use Prim.Native.Nat.{ℕ, _+_, _≤_}
 use lib.ListN.{length, take, getD}
 use Rattle.lent.specs.Numbers.{Bytes}
 use Rattle.meaning.specs.Books.{Book}
-use Rattle.meaning.specs.Automaton.{isState, after}
+use Rattle.meaning.specs.Automaton.{isState, after, depth}
 use Rattle.meaning.specs.Calls.{reportsAfter, stepsAfter}
 use Rattle.numbering.specs.States.{numberIn}
 use Rattle.running.specs.Reads.{WholeRunning}
@@ -24,11 +24,13 @@ pub record Stands (book : Book) (x : List ℕ) (room : ℕ) (run : Run) : Type 0
   pub few : run .here .reports .written ≤ room
 
 -- From one run, after the bytes x, to another with the first bytes of a part more: their reports stand behind those of before, their
--- failure steps are counted, and of the memory nothing but windows is changed.
+-- failure steps are paid for by what the bytes bring and the depth that is given up, less the gains, and of the memory nothing but
+-- windows is changed.
 pub record Came (book : Book) (x part : List ℕ) (room count : ℕ) (from to : Run) : Type 0 where
   pub stands : Stands book (x ++ take count part) room to
   pub taken : to .taken ≡ from .taken + count
-  pub steps : to .steps ≡ from .steps + stepsAfter book x (take count part)
+  pub steps : stepsAfter book x (take count part) + to .gains + depth (isState book) (after (isState book) (x ++ take count part))
+      ≡ from .gains + count + depth (isState book) (after (isState book) x)
   pub reports : to .here .reports ≡ withThese (reportsAfter book x (take count part)) (from .here .reports)
   pub elsewhere : (i : ℕ) → Elsewhere i → getD (to .here .memory) i 0 ≡ getD (from .here .memory) i 0
   pub long : length (to .here .memory) ≡ length (from .here .memory)

@@ -3,18 +3,18 @@ use mathlib.Core.Bool.{cond}
 use mathlib.Core.List.{List, [], _∷_}
 use Prim.Native.Nat.{ℕ, _+_, _-_}
 use lib.Dec.{ltb}
-use Rattle.numbering.specs.Walks.{Landed}
-use Rattle.tables.specs.Reads.{stateCountIn, phraseCountIn}
-use Rattle.stepping.specs.Steps.{nextIn}
+use Rattle.tables.specs.Reads.{stateCountIn, denseIn, phraseCountIn, depthIn, gainIn}
+use Rattle.gliding.specs.Quick.{quickIn}
 use Rattle.window.specs.Happened.{Here, happened}
+use Rattle.gliding.specs.declared.Way.{Way}
 use Rattle.feeding.specs.declared.Progress.{Progress}
 
--- How far a call has come: the state, the place, the bytes taken, the failure steps; and the reports with their room, and the memory.
+-- How far a call has come: the state, the place, the bytes taken, the sum of their gains; and the reports with their room, and the memory.
 pub record Run : Type 0 where
   pub state : ℕ
   pub place : ℕ
   pub taken : ℕ
-  pub steps : ℕ
+  pub gains : ℕ
   pub here : Here
 
 -- What the code carries along, and what it has written.
@@ -23,9 +23,13 @@ runOf progress memory room = record {
   state = progress .state .0;
   place = progress .place .0;
   taken = progress .taken;
-  steps = progress .steps;
+  gains = progress .gains;
   here = record { reports = record { written = progress .written; room = room }; memory = memory };
 }
+
+-- The way that was gone, and the reports written on it.
+abbrev pub progressOn : Way → ℕ → Progress
+progressOn way written = record { state = way .state; place = way .place; taken = way .taken; written = written; gains = way .gains }
 
 -- Before the first byte of a part.
 abbrev pub atStart : ℕ → ℕ → List ℕ → List ℕ → Run
@@ -33,24 +37,20 @@ atStart state place memory room = record {
   state = state;
   place = place;
   taken = 0;
-  steps = 0;
+  gains = 0;
   here = record { reports = record { written = 0; room = room }; memory = memory };
 }
-
--- The failure steps of a byte are added to those before it.
-abbrev pub stepsWith : ℕ → Landed → ℕ
-stepsWith steps landed = steps + landed .taken
 
 -- One byte: it leads to the next state, and at the next place happens what the state says.
 unfoldable pub byteTaken : List ℕ → Run → ℕ → Run
 byteTaken t run byte =
-    let landed : Landed = nextIn t (stateCountIn t) (run .state) byte in
+    let next : ℕ = quickIn t (stateCountIn t) (denseIn t) (run .state) byte in
     record {
-      state = landed .at;
+      state = next;
       place = run .place + 1;
       taken = run .taken + 1;
-      steps = stepsWith (run .steps) landed;
-      here = happened t (landed .at) (run .place + 1) (run .here);
+      gains = run .gains + gainIn t next;
+      here = happened t next (run .place + 1) (run .here);
     }
 
 -- The room that is left after a run, where there was room for so many reports.
@@ -63,3 +63,14 @@ partTaken t room [] run = run
 partTaken t room (byte ∷ rest) run =
     let further : Run = partTaken t room rest (byteTaken t run byte) in
     cond (ltb (freeAfter room run) (phraseCountIn t)) run further
+
+-- ── Failure steps ──
+
+-- The failure steps of some bytes, from one state to another. A byte adds one to the depth of the state, less its gain, and a failure step takes one
+-- away. With tables from elsewhere it may not come out, and the steps are then 0.
+unfoldable pub stepsOf : List ℕ → ℕ → ℕ → ℕ → ℕ → ℕ
+stepsOf t first last taken gains = taken + depthIn t first - (gains + depthIn t last)
+
+-- Those of a run, since the state in which it began.
+abbrev pub stepsSince : List ℕ → ℕ → Run → ℕ
+stepsSince t first run = stepsOf t first (run .state) (run .taken) (run .gains)

@@ -12,7 +12,7 @@ use Rattle.tables.specs.Passing.{tablesPass}
 use Rattle.tables.proofs.Passing as tables
 use Rattle.tracking.specs.Head.{begunWith}
 use Rattle.feeding.specs.declared.Progress.{Progress}
-use Rattle.feeding.specs.Taken.{atStart, runOf, partTaken}
+use Rattle.feeding.specs.Taken.{atStart, runOf, partTaken, stepsSince}
 use Rattle.feeding.specs.Ready.{Ready}
 use Rattle.scanner.specs.Passing.{largestPlace, stateHeld, placeHeld, tooSmall, runningPass}
 use Rattle.scanner.specs.Exact.{begunWell, beginOf, answerAfter, memoryAfter, tookFrom, feedOf}
@@ -34,12 +34,13 @@ module _ (t m : List ℕ) where
   begin-done e p = rw (e, p)
 
 -- What the code carries along, written down, is what was taken.
-pub took-from : (t m part room : List ℕ) (state place : ℕ) (progress : Progress) (m₁ room₁ m₂ : List ℕ)
+pub took-from : (t m part room : List ℕ) (state place : ℕ) (progress : Progress) (m₁ room₁ m₂ : List ℕ) (steps : ℕ)
     → runOf progress m₁ room₁ ≡ partTaken t (length room / 2) part (atStart state place m room)
     → m₂ ≡ memoryAfter (runOf progress m₁ room₁) state place
-    → record { answer = answerAfter (runOf progress m₁ room₁); memory = m₂; room = room₁ } ≡ tookFrom t m part room state place
+    → steps ≡ stepsSince t state (runOf progress m₁ room₁)
+    → record { answer = answerAfter steps (runOf progress m₁ room₁); memory = m₂; room = room₁ } ≡ tookFrom t m part room state place
 unfolding tookFrom
-took-from t m part room state place progress m₁ room₁ m₂ run moved = rw (← run, moved)
+took-from t m part room state place progress m₁ room₁ m₂ steps run moved counted = rw (← run, moved, counted)
 
 module _ (t m part room : List ℕ) where
   pub feed-small : tooSmall t m ≡ true → feedOf t m part room ≡ record { answer = fed.TooSmall; memory = m; room = room }
@@ -81,6 +82,8 @@ module _ (t m part room : List ℕ) where
                   tables = sized .0;
                   memory = sized .1;
                   states = counts .states .1;
+                  some-dense = counts .dense .0;
+                  few-dense = counts .dense .1;
                   phrases = counts .phrases .1;
                   inside = rw p (head .state);
                   early = omega (arith, head .place);

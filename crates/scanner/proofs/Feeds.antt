@@ -33,7 +33,7 @@ use Rattle.tracking.specs.Reports.{withThese}
 use Rattle.tracking.proofs.Head.{laid-moved}
 use Rattle.feeding.specs.Taken.{Run, atStart, partTaken}
 use Rattle.feeding.specs.Right.{Stands, Came}
-use Rattle.feeding.proofs.Right.{part-right}
+use Rattle.feeding.proofs.Right.{part-right, steps-right}
 use Rattle.scanner.specs.Answers.{Said, said}
 use Rattle.scanner.specs.Passing.{largestPlace, tooSmall, runningPass}
 use Rattle.scanner.specs.Exact.{FeedEnd, memoryAfter, tookFrom, feedOf}
@@ -158,7 +158,8 @@ module _ (book : Book) (x t m : List ℕ) (tables : TablesOf book t) (running : 
       steps = fed book x part free .steps;
     }
     unfolding tookFrom said fed withThese
-    said-right = same-said refl (omega (arith, came .taken)) (omega (arith, ap (λ (r : Reports). r .written) (came .reports))) (omega (arith, came .steps))
+    said-right = same-said refl (omega (arith, came .taken)) (omega (arith, ap (λ (r : Reports). r .written) (came .reports)))
+        (steps-right book (tables .limits) t (tables .laid) (tables .bytes) free x part count start end refl refl refl came)
 
     -- What was taken, exactly, is what the definition says.
     taken-right : FeedDone book x m part room (tookFrom t m part room state (length x))

@@ -13,14 +13,15 @@ use Rattle.lent.specs.Numbers.{Bytes, numberAt, withNumber}
 use Rattle.lent.proofs.Numbers.{length-withNumber, number-written, number-apart, number-below, number-agree}
 use Rattle.tables.specs.Layout.{roomForPieces}
 use Rattle.tables.specs.Layout as tables
-use Rattle.tables.specs.Reads.{pieceCountIn, stateCountIn, phraseCountIn, markIn, rankIn, lastIn, firstIn, delayIn}
+use Rattle.tables.specs.Reads.{pieceCountIn, stateCountIn, denseIn, phraseCountIn, markIn, rankIn, lastIn, firstIn, delayIn}
 use Rattle.tables.specs.Passing.{tablesPass}
 use Rattle.tables.proofs.Passing as passing
 use Rattle.tables.proofs.Parts.{number-zero}
 use Rattle.running.specs.Layout.{runningSize, tagAt, stateAt, placeAt, markAt, flagAt, runningTag}
 use Rattle.running.specs.Reads.{WholeRunning, closingPlaceIn}
 use Rattle.marks.specs.Marked.{noMarks, withMark}
-use Rattle.stepping.specs.Steps.{nextIn}
+use Rattle.gliding.specs.Quick.{quickIn}
+use Rattle.gliding.proofs.Turns.{quick-inside}
 use Rattle.window.specs.Waiting.{slotOf, withWaitingFrom}
 use Rattle.lent.specs.Zeros.{withZeros}
 use Rattle.window.specs.Opening.{slotOpened}
@@ -38,7 +39,6 @@ use Rattle.tracking.proofs.Waiting.{byte-waiting}
 use Rattle.tracking.proofs.Slots.{byte-slot}
 use Rattle.feeding.specs.Taken.{Run, atStart, byteTaken, partTaken}
 use Rattle.feeding.specs.Ready.{Ready}
-use Rattle.feeding.proofs.Steps.{next-inside}
 use Rattle.scanner.specs.Answers.{begunNumber}
 use Rattle.scanner.specs.Passing.{stateHeld, placeHeld, tooSmall, RunningPass, runningPass}
 use Rattle.scanner.specs.Exact.{beginOf, tookFrom, feedOf}
@@ -117,9 +117,9 @@ module _ (t : List ℕ) (run : Run) (a : ℕ) (inside : run .state < stateCountI
   byte-keeps : Keeps t 1 run next
   unfolding byteTaken
   byte-keeps =
-      let state : ℕ = nextIn t (stateCountIn t) (run .state) a .at in
+      let state : ℕ = quickIn t (stateCountIn t) (denseIn t) (run .state) a in
       record {
-        inside = next-inside t (stateCountIn t) (run .state) a inside;
+        inside = quick-inside t (stateCountIn t) (denseIn t) (run .state) a (omega arith);
         early = omega arith;
         long = happened-long t state (run .place + 1) (run .here);
         head = λ i below. happened-elsewhere t i (inl below) state (run .place + 1) (run .here) sized;

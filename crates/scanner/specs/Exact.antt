@@ -8,7 +8,7 @@ use lib.ListN.{length}
 use Rattle.tables.specs.Reads.{phraseCountIn}
 use Rattle.tables.specs.Passing.{tablesPass}
 use Rattle.tracking.specs.Head.{begunWith, movedTo}
-use Rattle.feeding.specs.Taken.{Run, atStart, partTaken}
+use Rattle.feeding.specs.Taken.{Run, atStart, partTaken, stepsSince}
 use Rattle.scanner.specs.Passing.{largestPlace, stateHeld, placeHeld, tooSmall, runningPass}
 use Rattle.scanner.specs.declared.Begun.{Begun}
 use Rattle.scanner.specs.declared.Begun.the-variants as begun
@@ -40,9 +40,9 @@ pub record FeedEnd : Type 0 where
   pub memory : List ℕ
   pub room : List ℕ
 
--- What is answered once bytes have been taken.
-abbrev pub answerAfter : Run → Fed
-answerAfter run = fed.Took (run .taken) (run .here .reports .written) (run .steps)
+-- What is answered once bytes have been taken, with so many failure steps.
+abbrev pub answerAfter : ℕ → Run → Fed
+answerAfter steps run = fed.Took (run .taken) (run .here .reports .written) steps
 
 -- The running memory once bytes have been taken from a state and a place on: the state and the place that were reached are written into it.
 abbrev pub memoryAfter : Run → ℕ → ℕ → List ℕ
@@ -52,7 +52,7 @@ memoryAfter run state place = movedTo (run .here .memory) (run .state) (run .pla
 unfoldable pub tookFrom : List ℕ → List ℕ → List ℕ → List ℕ → ℕ → ℕ → FeedEnd
 tookFrom t m part room state place =
     let run : Run = partTaken t (length room / 2) part (atStart state place m room) in
-    record { answer = answerAfter run; memory = memoryAfter run state place; room = run .here .reports .room }
+    record { answer = answerAfter (stepsSince t state run) run; memory = memoryAfter run state place; room = run .here .reports .room }
 
 -- Refused with 1, 12, 10, 11, in this order, with nothing changed; else bytes are taken from the state and the place in the memory.
 unfoldable pub feedOf : List ℕ → List ℕ → List ℕ → List ℕ → FeedEnd

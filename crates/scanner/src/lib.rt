@@ -144,7 +144,7 @@ fn take_part(
     Fed::Took {
         taken: progress.taken,
         reports: progress.written,
-        steps: progress.steps,
+        steps: feeding::steps_since(t, state, progress),
     }
 }
 

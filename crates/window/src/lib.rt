@@ -18,6 +18,7 @@ mod waits; // waits.rt: a window waits its turn
 pub use begins::begin_windows;
 pub use ends::pieces_end;
 pub use opens::open_slot;
+pub use waits::slot_of;
 pub use waits::wait_from;
 
 // What happens at a place once the state is known: the windows of the place open, the pieces of the state end, and the phrases

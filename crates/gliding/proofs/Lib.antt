@@ -1,0 +1,5 @@
+pub mod Seeking
+pub mod Quiet
+pub mod Turns
+pub mod Agree
+pub mod Laid

@@ -1,0 +1,96 @@
+-- What is found from the failure on is what is found from the whole, and a failure has a smaller number.
+-- Assumes nothing.
+use mathlib.Core.Path.{_≡_, refl, sym, ap, _∙_}
+use Prim.Native.Nat.{_<_}
+use borrow.Author.Needs.{needs}
+use native.Mathlib.Omega.{arith}
+use Rattle.gliding.specs.Quick.{soughtIn}
+use Rattle.gliding.proofs.Seeking.{sought-dense, turn-child, turn-back, smaller}
+use Rattle.gliding.proofs.quick.sought.Statement.{statement}
+use Rattle.gliding.proofs.quick.sought.Tie as tie
+
+abbrev Inv-loop : tie.InvT-loop
+Inv-loop t states dense state byte from₀ from = (from < states) × (soughtIn t states dense state byte ≡ soughtIn t states dense from byte)
+
+abbrev μ-loop : tie.MeasureT-loop
+μ-loop t states dense state byte from₀ from = from
+
+loop-holds : tie.Need-loop-holds Inv-loop μ-loop
+loop-holds c = (omega arith, refl)
+
+state-at-requires : tie.Need-state-at-requires Inv-loop μ-loop
+state-at-requires c κs = omega arith
+
+child-by-requires : tie.Need-child-by-requires Inv-loop μ-loop
+child-by-requires c κs = omega arith
+
+number-requires : tie.Need-number-requires Inv-loop μ-loop
+number-requires c κs = search needs
+
+index-requires : tie.Need-index-requires Inv-loop μ-loop
+index-requires c κs = search needs
+
+returns : tie.Need-returns Inv-loop μ-loop
+returns c =
+    let at = c .before .before .before .before .before .before in
+    let a = at .before .before .args in
+    let child = c .before .before .before .child-by in
+    let some : child .result .0 ≡ 0 → ⊥ = λ e. c .before .if1 .taken (c .before .before .number .ensures ∙ e) in
+    let found = turn-child (a .t .now) (a .states) (a .dense) (a .byte) (omega arith) (at .loop .from) _ (child .result .0) (c .before .before .before .before .state-at .ensures) (omega arith) (child .ensures .0) some in
+    (c .index .ensures .0 ∙ sym (at .loop .inv .1 ∙ found), omega arith)
+
+state-at-requires-2 : tie.Need-state-at-requires-2 Inv-loop μ-loop
+state-at-requires-2 c κs = omega arith
+
+failure-requires : tie.Need-failure-requires Inv-loop μ-loop
+failure-requires c κs = omega arith
+
+index-requires-2 : tie.Need-index-requires-2 Inv-loop μ-loop
+index-requires-2 c κs = search needs
+
+loop-less : tie.Need-loop-less Inv-loop μ-loop
+loop-less c =
+    let at = c .before .before .before .before .before .before .before .before in
+    let a = at .before .before .args in
+    omega (arith, smaller (a .t .now) (at .loop .from) _ _ _ (omega arith) (c .before .before .state-at2 .ensures) (c .before .failure .ensures .0) (c .index2 .ensures .0) .1)
+
+loop-again : tie.Need-loop-again Inv-loop μ-loop
+loop-again c =
+    let at = c .before .before .before .before .before .before .before .before in
+    let a = at .before .before .args in
+    let child = c .before .before .before .before .before .child-by in
+    let none : child .result .0 ≡ 0 = omega (arith, c .before .before .before .before .number .ensures, c .before .before .before .if1 .left) in
+    let back = smaller (a .t .now) (at .loop .from) _ _ _ (omega arith) (c .before .before .state-at2 .ensures) (c .before .failure .ensures .0) (c .index2 .ensures .0) in (
+      omega (arith, back .1),
+      at .loop .inv .1 ∙ turn-back (a .t .now) (a .states) (a .dense) (a .byte) (omega arith) (at .loop .from) _ (child .result .0)
+          (c .before .before .before .before .before .before .state-at .ensures) (omega arith) (child .ensures .0) none (c .index2 .result) (back .0),
+    )
+
+row-requires : tie.Need-row-requires Inv-loop μ-loop
+row-requires c κs = omega arith
+
+returns-2 : tie.Need-returns-2 Inv-loop μ-loop
+returns-2 c =
+    let at = c .before .before in
+    let a = at .before .before .args in
+    (c .row .ensures .0 ∙ sym (at .loop .inv .1 ∙ sought-dense (a .t .now) (a .states) (a .dense) (a .byte) (omega arith) (at .loop .from) (omega arith)), omega arith)
+
+pub sought-spec : {M : Type 1} → statement M
+sought-spec =
+    tie.close
+    (tie.spec
+    Inv-loop
+    μ-loop
+    loop-holds
+    state-at-requires
+    child-by-requires
+    number-requires
+    index-requires
+    returns
+    state-at-requires-2
+    failure-requires
+    index-requires-2
+    loop-less
+    loop-again
+    row-requires
+    returns-2)

@@ -1,0 +1,45 @@
+// The quick next state: one cell of the tables, where the state has a row.
+ghost use mathlib.Core.Path.{_≡_};
+ghost use Prim.Native.Nat.{_≤_, _<_};
+ghost use Rattle.tables.specs.Layout.{roomForStates};
+ghost use Rattle.tables.specs.Reads.{Whole};
+ghost use Rattle.gliding.specs.Quick.{rowIn, soughtIn};
+use counters::State;
+use tables::layout::SIZE;
+
+// The state with an index.
+pub fn state_at(index: usize) -> State
+    requires { ⌜ index < roomForStates ⌝ }
+    ensures { λ r. ⌜ r .0 ≡ index ⌝ }
+{
+    State::numbered(index as u16)
+}
+
+// What the row of a dense state has for a byte: its cell. Where no cell of the byte's column can stand it is the number of the
+// states, which no state has.
+fn row(t: &[u8], states: usize, dense: usize, state: usize, byte: u8) -> usize
+    requires { ⌜ (Whole (now t)) × (states ≤ roomForStates) × (dense ≤ states) × (state < dense) ⌝ }
+    ensures { λ r. ⌜ (r ≡ rowIn (now (t .entry)) states dense state byte) × (r < 65536) ⌝ }
+{
+    let column = tables::column(t, byte);
+    if SIZE - 2 * dense < column {
+        return states;
+    }
+    tables::cell(t, column, state_at(state))
+}
+
+// What is found for a byte from a state on. The state is told by its index, which the loop over bytes keeps in one register.
+pub fn sought(t: &[u8], states: usize, dense: usize, state: usize, byte: u8) -> usize
+    requires { ⌜ (Whole (now t)) × (states ≤ roomForStates) × (1 ≤ dense) × (dense ≤ states) × (state < states) ⌝ }
+    ensures { λ r. ⌜ (r ≡ soughtIn (now (t .entry)) states dense state byte) × (r < 65536) ⌝ }
+{
+    let mut from = state;
+    while dense <= from {
+        let child = stepping::child_by(t, states, state_at(from), byte);
+        if child.number() != 0 {
+            return child.index();
+        }
+        from = tables::failure(t, state_at(from)).index();
+    }
+    row(t, states, dense, from, byte)
+}
