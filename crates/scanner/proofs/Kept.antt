@@ -32,10 +32,10 @@ use Rattle.lent.proofs.Zeros.{length-zeros, zeros-there}
 use Rattle.window.proofs.Opening.{length-slot}
 use Rattle.window.proofs.Waiting.{length-waiting-from}
 use Rattle.window.proofs.Happened.{happened-long}
-use Rattle.tracking.specs.Places.{sizeNumber, Elsewhere}
+use Rattle.window.specs.Places.{sizeNumber, Elsewhere}
 use Rattle.tracking.specs.Head.{begunWith, movedTo}
-use Rattle.tracking.proofs.Waiting.{byte-waiting}
-use Rattle.tracking.proofs.Slots.{byte-slot}
+use Rattle.window.proofs.WaitingRead.{byte-waiting}
+use Rattle.window.proofs.Slots.{byte-slot}
 use Rattle.feeding.specs.Taken.{Run, atStart, byteTaken, partTaken}
 use Rattle.feeding.specs.Ready.{Ready}
 use Rattle.feeding.proofs.Steps.{next-inside}

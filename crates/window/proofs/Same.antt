@@ -31,10 +31,10 @@ use Rattle.running.specs.Kept.{closingAfter, endsHere, begins, marked}
 use Rattle.running.specs.Held.{Windows}
 use Rattle.running.proofs.Below.{someBelow-iff}
 use Rattle.running.proofs.Entries.{waits-past}
 use Rattle.window.specs.Waiting.{slotOf}
 use Rattle.window.specs.Opening.{closesAfter}
-use Rattle.tracking.specs.Midway.{setsWaiting, setsMark}
-use Rattle.tracking.proofs.Tables.{delay-spot, closes-spot, last-spot, rank-spot}
+use Rattle.window.specs.Midway.{setsWaiting, setsMark}
+use Rattle.window.proofs.Tables.{delay-spot, closes-spot, last-spot, rank-spot}
 
 module _ (book : Book) (limits : Within book) (t : List ℕ) (laid : Laid (tablesLayout book) t)
     (x : List ℕ) (a : ℕ) (m : List ℕ) (windows : Windows book x m) where

@@ -33,16 +33,16 @@ use Rattle.running.proofs.Kept.{kept-step}
 use Rattle.running.proofs.Marks.{marked-matches}
 use Rattle.marks.specs.Marked.{noMarks, isMarked}
 use Rattle.marks.proofs.Marked.{none-marked}
 use Rattle.window.specs.Opening.{closesAfter, slotOpened}
 use Rattle.window.specs.Ending.{Ended, piecesEnded}
 use Rattle.window.specs.Happened.{endedAt}
 use Rattle.window.proofs.Opening.{length-slot}
-use Rattle.tracking.specs.Places.{Elsewhere}
-use Rattle.tracking.specs.Midway.{Midway}
-use Rattle.tracking.proofs.Slots.{bytes-slot, byte-slot, flags-slot, waits-slot, closing-slot}
-use Rattle.tracking.proofs.Tables.{rank-spot, pieces-state, ends-suffix}
-use Rattle.tracking.proofs.Same.{same-closing, same-waiting, same-marks}
-use Rattle.tracking.proofs.Ending.{all-midway, all-waits, all-marked}
+use Rattle.window.specs.Places.{Elsewhere}
+use Rattle.window.specs.Midway.{Midway}
+use Rattle.window.proofs.Slots.{bytes-slot, byte-slot, flags-slot, waits-slot, closing-slot}
+use Rattle.window.proofs.Tables.{rank-spot, pieces-state, ends-suffix}
+use Rattle.window.proofs.Same.{same-closing, same-waiting, same-marks}
+use Rattle.window.proofs.EndingRead.{all-midway, all-waits, all-marked}
 
 all-of : (P : ℕ → Type 0) (l : List ℕ) → ((p : ℕ) → List·Memᴰ p l → P p) → All P l
 unfolding All

@@ -24,9 +24,9 @@ use Rattle.running.specs.Layout.{flagAt, closingAt, slotLength}
 use Rattle.running.specs.Reads.{WholeRunning, flagIn, closingPlaceIn, slotAt, bitAt, waitsIn}
 use Rattle.running.specs.Held.{Flagged}
 use Rattle.running.proofs.Below.{someBelow-iff, someBelow-same}
 use Rattle.window.specs.Opening.{slotEmptied}
-use Rattle.tracking.specs.Places.{sizeNumber, Elsewhere}
-use Rattle.tracking.proofs.Waiting.{bytes-set}
+use Rattle.window.specs.Places.{sizeNumber, Elsewhere}
+use Rattle.window.proofs.WaitingRead.{bytes-set}
 
 module _ (m : List ℕ) (s : ℕ) (whole : WholeRunning m) (slot : s < slots) where
   pub bytes-emptied : Bytes m → Bytes (slotEmptied m s)

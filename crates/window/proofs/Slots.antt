@@ -19,11 +19,11 @@ use Rattle.running.specs.Layout.{flagAt}
 use Rattle.running.specs.Reads.{WholeRunning, flagIn, closingPlaceIn, waitsIn}
 use Rattle.running.specs.Held.{Flagged}
 use Rattle.running.proofs.Below.{someBelow-iff, someBelow-same}
 use Rattle.window.specs.Opening.{closesAfter, windowsOpened, slotEmptied, slotOpened}
 use Rattle.window.proofs.Opening.{length-windows, windows-apart, windows-wait, slot-quiet, slot-due}
-use Rattle.tracking.specs.Places.{sizeNumber, Elsewhere}
-use Rattle.tracking.proofs.Opening.{bytes-opened, closing-opened}
-use Rattle.tracking.proofs.Emptying.{bytes-emptied, elsewhere-emptied, closing-emptied, waits-emptied, flags-emptied}
+use Rattle.window.specs.Places.{sizeNumber, Elsewhere}
+use Rattle.window.proofs.OpeningRead.{bytes-opened, closing-opened}
+use Rattle.window.proofs.Emptying.{bytes-emptied, elsewhere-emptied, closing-emptied, waits-emptied, flags-emptied}
 
 -- In a slot without its flag no piece waits.
 none-waits : (m : List ℕ) → Flagged m → (q p : ℕ) → q < slots → p < roomForPieces → flagIn m q ≡ 0 → waitsIn m q p ≡ false

@@ -10,9 +10,9 @@ use Rattle.tables.specs.Layout.{roomForPieces}
 use Rattle.tables.specs.Reads.{delayIn, rankIn, lastIn}
 use Rattle.running.specs.Reads.{WholeRunning, closingPlaceIn}
 use Rattle.running.specs.Held.{Flagged}
 use Rattle.window.specs.Waiting.{slotOf}
 use Rattle.window.specs.Ending.{Ended}
-use Rattle.tracking.specs.Places.{Elsewhere}
+use Rattle.window.specs.Places.{Elsewhere}
 
 module _ (t : List ℕ) (place : ℕ) (closing : ℕ → ℕ) where
   -- Piece p ends here and is not the last of its phrase, so that the next one waits: that is g, in slot q.

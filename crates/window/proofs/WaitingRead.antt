@@ -22,8 +22,8 @@ use Rattle.running.specs.Layout.{flagAt, closingAt, ringAt}
 use Rattle.running.specs.Reads.{WholeRunning, flagIn, closingPlaceIn, bitAt, waitsIn}
 use Rattle.running.specs.Held.{Flagged}
 use Rattle.running.proofs.Below.{someBelow-iff, someBelow-same}
 use Rattle.window.specs.Waiting.{flagged, withWaiting}
-use Rattle.tracking.specs.Places.{sizeNumber, Outside, Elsewhere}
+use Rattle.window.specs.Places.{sizeNumber, Outside, Elsewhere}
 
 pub closing-set : (m : List ℕ) (i v p : ℕ) → Outside i → p < roomForPieces → closingPlaceIn (set m i v) p ≡ closingPlaceIn m p
 closing-set m i v p outside room =

@@ -16,11 +16,11 @@ use Rattle.running.specs.Waiting.{slots}
 use Rattle.running.specs.Reads.{closingPlaceIn, waitsIn}
 use Rattle.marks.specs.Marked.{isMarked, withMark}
 use Rattle.marks.proofs.Marked.{marked-with}
 use Rattle.window.specs.Waiting.{slotOf, withWaitingFrom}
 use Rattle.window.specs.Ending.{Ended, pieceEnded, piecesEnded}
 use Rattle.window.proofs.Waiting.{length-waiting}
-use Rattle.tracking.specs.Midway.{setsWaiting, setsMark, Midway}
-use Rattle.tracking.proofs.Waiting.{closing-waiting, waits-waiting, flags-waiting, byte-waiting, bytes-waiting}
+use Rattle.window.specs.Midway.{setsWaiting, setsMark, Midway}
+use Rattle.window.proofs.WaitingRead.{closing-waiting, waits-waiting, flags-waiting, byte-waiting, bytes-waiting}
 
 module _ (t : List ℕ) (place : ℕ) (closing : ℕ → ℕ) (began : List ℕ) where
   -- ── One piece ──

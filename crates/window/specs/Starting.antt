@@ -11,8 +11,8 @@ use Rattle.tables.specs.Reads.{delayIn, firstIn}
 use Rattle.running.specs.Waiting.{slots}
 use Rattle.running.specs.Reads.{WholeRunning, closingPlaceIn, waitsIn}
 use Rattle.running.specs.Held.{Flagged}
 use Rattle.window.specs.Waiting.{slotOf}
-use Rattle.tracking.specs.Places.{Elsewhere}
+use Rattle.window.specs.Places.{Elsewhere}
 
 -- Piece p is one of the pieces below n and the first of its phrase, and its window, which begins at place 0, opens at a place of slot q.
 unfoldable pub startsIn : List ℕ → ℕ → ℕ → ℕ → Bool

@@ -33,14 +33,14 @@ use Rattle.running.specs.Kept.{waitingFirst}
 use Rattle.running.specs.Held.{Flagged, Windows}
 use Rattle.running.proofs.Below.{someBelow-iff}
 use Rattle.running.proofs.Begin.{kept-begin}
 use Rattle.window.specs.Waiting.{slotOf, withWaiting, withWaitingFrom}
 use Rattle.window.specs.Begun.{waitingIfFirst, firstsWaiting, windowsBegun}
 use Rattle.window.proofs.Waiting.{length-waiting}
-use Rattle.tracking.specs.Places.{sizeNumber}
-use Rattle.tracking.specs.Starting.{startsIn, Starting}
-use Rattle.tracking.proofs.Waiting.{closing-waiting, waits-waiting, flags-waiting, byte-waiting, bytes-waiting}
-use Rattle.tracking.proofs.Opening.{ltb-further}
-use Rattle.tracking.proofs.Tables.{delay-spot, first-spot}
+use Rattle.window.specs.Places.{sizeNumber}
+use Rattle.window.specs.Starting.{startsIn, Starting}
+use Rattle.window.proofs.WaitingRead.{closing-waiting, waits-waiting, flags-waiting, byte-waiting, bytes-waiting}
+use Rattle.window.proofs.OpeningRead.{ltb-further}
+use Rattle.window.proofs.Tables.{delay-spot, first-spot}
 
 -- ── Zeroed memory ──
 
