@@ -9,8 +9,7 @@ use native.Mathlib.Omega.{arith}
 use lib.Dec.{ltb, eqb}
 use lib.ListN.{getD}
 use borrow.Author.Tests.{eq-eqb, ne-eqb, lt-ltb, le-ltb}
-use Rattle.lent.specs.Zeros.{withZeros}
-use Rattle.lent.proofs.Zeros.{length-zeros, bytes-zeros, zeros-there, zeros-apart}
+use Rattle.lent.proofs.Zeros.{bytes-zeros, zeros-there, zeros-apart}
 use Rattle.lent.specs.Numbers.{Bytes}
 use Rattle.lent.proofs.Cases.{lt-or-le, eq-or-ne}
 use Rattle.bits.specs.Bits.{bitOf}
@@ -22,7 +21,7 @@ use Rattle.format.specs.Limits.{Within}
 use Rattle.tables.specs.Regions.{Laid}
 use Rattle.tables.specs.Spots.{none-left, spotAt, spotCount}
 use Rattle.tables.specs.Layout.{roomForPieces, tablesLayout}
-use Rattle.tables.specs.Reads.{delayIn, firstIn}
+use Rattle.tables.specs.Reads.{firstIn}
 use Rattle.tables.proofs.Parts.{number-zero}
 use Rattle.tables.proofs.Fits.{fits}
 use Rattle.tables.proofs.Fields.{piece-count-laid}
@@ -33,9 +32,10 @@ use Rattle.running.specs.Kept.{waitingFirst}
 use Rattle.running.specs.Held.{Flagged, Windows}
 use Rattle.running.proofs.Below.{someBelow-iff}
 use Rattle.running.proofs.Begin.{kept-begin}
-use Rattle.window.specs.Waiting.{slotOf, withWaiting, withWaitingFrom}
-use Rattle.window.specs.Begun.{waitingIfFirst, firstsWaiting, windowsBegun}
+use Rattle.window.specs.Waiting.{slotFrom, withWaiting, withWaitingFrom}
+use Rattle.window.specs.Begun.{waitingIfFirst, firstsWaiting, cleared, windowsBegun}
 use Rattle.window.proofs.Waiting.{length-waiting}
+use Rattle.window.proofs.Begun.{length-cleared}
 use Rattle.window.specs.Places.{sizeNumber}
 use Rattle.window.specs.Starting.{startsIn, Starting}
 use Rattle.window.proofs.WaitingRead.{closing-waiting, waits-waiting, flags-waiting, byte-waiting, bytes-waiting}
@@ -54,7 +54,7 @@ module _ (t m : List ℕ) (whole : WholeRunning m) (zeros : (i : ℕ) → i < si
   starting-zero = record {
     whole = whole;
     closes = λ p piece. number-zero 8 m (closingAt + 8 * p) (λ k from to. zeros k (omega arith));
-    waiting = λ q p slot piece. none-waiting q p slot piece ∙ sym (ap (λ v. v && (firstIn t p && eqb q (slotOf (0 + delayIn t p)))) (le-ltb p 0 (omega arith)));
+    waiting = λ q p slot piece. none-waiting q p slot piece ∙ sym (ap (λ v. v && (firstIn t p && eqb q (slotFrom t p 0))) (le-ltb p 0 (omega arith)));
     flags = λ q slot. zeros (flagAt + q) (omega arith) ∙ sym (ap (λ v. cond v 128 0) (untrue (someBelow (waitsIn m q) roomForPieces)
         (λ u. let r = someBelow-iff (waitsIn m q) roomForPieces .0 u in false≢true (sym (none-waiting q (r .0) slot (r .1)) ∙ r .2))));
     elsewhere = λ i there. refl;
@@ -65,7 +65,7 @@ module _ (t m : List ℕ) (whole : WholeRunning m) (zeros : (i : ℕ) → i < si
 
 module _ (t : List ℕ) where
   abbrev slot : ℕ → ℕ
-  slot p = slotOf (0 + delayIn t p)
+  slot p = slotFrom t p 0
 
   -- One piece more: the last one, or one of those before it.
   starts-further : (p q g : ℕ) → startsIn t (suc p) q g ≡ startsIn t p q g || (eqb g p && (firstIn t p && eqb q (slot p)))
@@ -110,21 +110,21 @@ module _ (t : List ℕ) where
 
 module _ (book : Book) (limits : Within book) (t : List ℕ) (laid : Laid (tablesLayout book) t) (m : List ℕ) (whole : WholeRunning m) where
   zeroed : List ℕ
-  zeroed = withZeros m 0 runningSize
+  zeroed = cleared m
 
   begun : Starting t (spotCount book) zeroed (windowsBegun t m)
   unfolding windowsBegun zeroed runningSize
   begun =
       rw (piece-count-laid book limits t laid)
       (starting-all t (spotCount book) zeroed (fits book limits .pieces)
-      (starting-zero t zeroed (rw (length-zeros m 0 sizeNumber) whole) (λ i below. zeros-there m 0 sizeNumber (omega arith) i (omega arith) (omega arith))))
+      (starting-zero t zeroed (rw (length-cleared m) whole) (λ i below. zeros-there m 0 sizeNumber (omega arith) i (omega arith) (omega arith))))
 
   starts-first : (q p : ℕ) → startsIn t (spotCount book) q p ≡ waitingFirst book q p
   unfolding startsIn waitingFirst slotFor opensAt
   starts-first q p = go (lt-or-le p (spotCount book))
     where
       go : (p < spotCount book) ⊎ (spotCount book ≤ p)
-          → ltb p (spotCount book) && (firstIn t p && eqb q (slotOf (0 + delayIn t p)))
+          → ltb p (spotCount book) && (firstIn t p && eqb q (slotFrom t p 0))
           ≡ ltb p (spotCount book) && (none-left (spotAt book p .before) && eqb q ((0 + delay (spotAt book p .piece)) % slots))
       go (inl real) = rw (first-spot book limits t laid p real, delay-spot book limits t laid p real)
       go (inr none) = rw (le-ltb p (spotCount book) none)

@@ -11,12 +11,12 @@ use borrow.Author.Tests.{le-leb, lt-leb, ltb-true, ltb-false}
 use Rattle.meaning.specs.Automaton.{some-of}
 use Rattle.format.specs.Limits.{All}
 use Rattle.tables.specs.Layout.{roomForPieces, roomForPhrases}
-use Rattle.tables.specs.Reads.{delayIn, rankIn, lastIn}
+use Rattle.tables.specs.Reads.{rankIn, lastIn}
 use Rattle.running.specs.Waiting.{slots}
 use Rattle.running.specs.Reads.{closingPlaceIn, waitsIn}
 use Rattle.marks.specs.Marked.{isMarked, withMark}
 use Rattle.marks.proofs.Marked.{marked-with}
-use Rattle.window.specs.Waiting.{slotOf, withWaitingFrom}
+use Rattle.window.specs.Waiting.{slotFrom, withWaitingFrom}
 use Rattle.window.specs.Ending.{Ended, pieceEnded, piecesEnded}
 use Rattle.window.proofs.Waiting.{length-waiting}
 use Rattle.window.specs.Midway.{setsWaiting, setsMark, Midway}
@@ -30,7 +30,7 @@ module _ (t : List ℕ) (place : ℕ) (closing : ℕ → ℕ) (began : List ℕ)
     next = (p + 1) % roomForPieces
 
     abbrev slot : ℕ
-    slot = slotOf (place + delayIn t next)
+    slot = slotFrom t next place
 
     -- What comes of the piece, by whether it is past and whether it is the last.
     abbrev result : Bool → Bool → Ended

@@ -36,7 +36,7 @@ module _ (t : List ℕ) (place : ℕ) (test : ℕ → Bool) where
     where
       go : (v : Bool) → Bytes (windowsOpened t place test m p)
           → Bytes (cond v (windowOpened t place (windowsOpened t place test m p) p) (windowsOpened t place test m p))
-      go true before = number-bytes-kept 8 (windowsOpened t place test m p) (closingAt + 8 * p) (closesAfter (spanIn t p) place) before
+      go true before = number-bytes-kept 8 (windowsOpened t place test m p) (closingAt + 8 * p) _ before
       go false before = before
 
   module _ (bytes : Bytes t) (early : place < 4294967296) (m : List ℕ) (whole : WholeRunning m) where
@@ -67,6 +67,6 @@ module _ (t : List ℕ) (place : ℕ) (test : ℕ → Bool) where
         same false ih = ih ∙ ap (λ v. cond (v && test p) (closesAfter (spanIn t p) place) (closingPlaceIn m p)) (le-ltb p p (omega arith))
 
         other : (v : Bool) → (g ≡ p → ⊥) → closingPlaceIn (cond v (windowOpened t place before p) before) g ≡ closingPlaceIn before g
-        other true d = number-apart 8 8 before (closingAt + 8 * p) (closesAfter (spanIn t p) place) (closingAt + 8 * g)
+        other true d = number-apart 8 8 before (closingAt + 8 * p) _ (closingAt + 8 * g)
             (⊎-elim (λ (l : g < p). inl (omega arith)) (λ (l : p ≤ g). inr (omega arith)) (lt-or-le g p))
         other false d = refl

@@ -31,7 +31,7 @@ use Rattle.running.specs.Kept.{closingAfter, endsHere, begins, marked}
 use Rattle.running.specs.Held.{Windows}
 use Rattle.running.proofs.Below.{someBelow-iff}
 use Rattle.running.proofs.Entries.{waits-past}
-use Rattle.window.specs.Waiting.{slotOf}
+use Rattle.window.specs.Waiting.{slotFrom}
 use Rattle.window.specs.Opening.{closesAfter}
 use Rattle.window.specs.Midway.{setsWaiting, setsMark}
 use Rattle.window.proofs.Tables.{delay-spot, closes-spot, last-spot, rank-spot}
@@ -94,7 +94,7 @@ module _ (book : Book) (limits : Within book) (t : List ℕ) (laid : Laid (table
       next p real e = (omega (arith, order .chain p real e .0, fits book limits .pieces), omega (arith, order .chain p real e .0))
 
       slot-next : (p : ℕ) → p < spotCount book → spotAt book p .last ≡ false
-          → eqb q (slotOf (here + delayIn t ((p + 1) % roomForPieces))) ≡ slotted (suc p)
+          → eqb q (slotFrom t ((p + 1) % roomForPieces) here) ≡ slotted (suc p)
       slot-next p real e =
           let n = next p real e in
           ap (λ (d : ℕ). eqb q ((here + d) % slots)) (ap (delayIn t) (n .0) ∙ delay-spot book limits t laid (suc p) (n .1))

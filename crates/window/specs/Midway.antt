@@ -7,10 +7,10 @@ use lib.Dec.{leb, eqb}
 use lib.ListN.{getD}
 use Rattle.lent.specs.Numbers.{Bytes}
 use Rattle.tables.specs.Layout.{roomForPieces}
-use Rattle.tables.specs.Reads.{delayIn, rankIn, lastIn}
+use Rattle.tables.specs.Reads.{rankIn, lastIn}
 use Rattle.running.specs.Reads.{WholeRunning, closingPlaceIn}
 use Rattle.running.specs.Held.{Flagged}
-use Rattle.window.specs.Waiting.{slotOf}
+use Rattle.window.specs.Waiting.{slotFrom}
 use Rattle.window.specs.Ending.{Ended}
 use Rattle.window.specs.Places.{Elsewhere}
 
@@ -19,7 +19,7 @@ module _ (t : List ℕ) (place : ℕ) (closing : ℕ → ℕ) where
   unfoldable pub setsWaiting : ℕ → ℕ → ℕ → Bool
   setsWaiting q g p =
       leb place (closing p)
-      && (not (lastIn t p) && (eqb g ((p + 1) % roomForPieces) && eqb q (slotOf (place + delayIn t ((p + 1) % roomForPieces)))))
+      && (not (lastIn t p) && (eqb g ((p + 1) % roomForPieces) && eqb q (slotFrom t ((p + 1) % roomForPieces) place)))
 
   -- Piece p ends here and is the last of its phrase, which is marked: that is the one of rank j.
   unfoldable pub setsMark : ℕ → ℕ → Bool

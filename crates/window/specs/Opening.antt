@@ -12,7 +12,7 @@ use Rattle.tables.specs.Layout.{roomForPieces}
 use Rattle.tables.specs.Reads.{spanIn}
 use Rattle.running.specs.Waiting.{never}
 use Rattle.running.specs.Layout.{flagAt, closingAt, slotLength}
-use Rattle.running.specs.Reads.{flagIn, slotAt, waitsIn}
+use Rattle.running.specs.Reads.{flagIn, closingPlaceIn, slotAt, waitsIn}
 use Rattle.window.specs.Waiting.{slotOf}
 use Rattle.window.specs.declared.opens.Window.{Window}
 
@@ -24,9 +24,13 @@ openSpan = 65535
 unfoldable pub closesAfter : ℕ → ℕ → ℕ
 closesAfter span opened = cond (eqb span openSpan) never (opened + span)
 
+-- What a closing place is replaced by once a window opens: whatever it was, by that of the newer window, which is the later one.
+abbrev pub replacedBy : ℕ → ℕ → ℕ
+replacedBy was newer = newer
+
 -- A piece's window once one opens at a place: its closing place is replaced by the later one.
 unfoldable pub renewedAt : Window → ℕ → ℕ → Window
-renewedAt window span opened = record { closes = placeOf (closesAfter span opened) }
+renewedAt window span opened = record { closes = placeOf (replacedBy (window .closes .0) (closesAfter span opened)) }
 
 -- The memory with a closing place for piece p.
 unfoldable pub withClosing : List ℕ → ℕ → ℕ → List ℕ
@@ -34,7 +38,7 @@ withClosing m p closes = withNumber 8 m (closingAt + 8 * p) closes
 
 -- The memory once a window of piece p opens at a place.
 unfoldable pub windowOpened : List ℕ → ℕ → List ℕ → ℕ → List ℕ
-windowOpened t place m p = withClosing m p (closesAfter (spanIn t p) place)
+windowOpened t place m p = withClosing m p (replacedBy (closingPlaceIn m p) (closesAfter (spanIn t p) place))
 
 -- The memory once a window opens of each piece below n of which a test holds.
 unfoldable pub windowsOpened : List ℕ → ℕ → (ℕ → Bool) → List ℕ → ℕ → List ℕ

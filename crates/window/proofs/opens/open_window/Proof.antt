@@ -27,7 +27,7 @@ returns c =
     let span = c .before .before .before .before .before .span in
     let read = c .before .before .before .before .before .before .window-of in
     renewed-opens (a .t .now) (a .place .0) (a .m .now) _ (a .piece) (span .result) (read .result) (renewed .result)
-    (span .ensures) (renewed .ensures) (c .before .before .put-window .ensures)
+    (read .ensures) (span .ensures) (renewed .ensures) (c .before .before .put-window .ensures)
 
 pub open-window-spec : {M : Type 1} → statement M
 open-window-spec =
