@@ -31,7 +31,7 @@ use Rattle.window.specs.Places.{Elsewhere}
 use Rattle.tracking.specs.Reports.{withThese}
 use Rattle.window.proofs.Step.{elsewhere-step, bytes-step}
 use Rattle.tracking.proofs.Byte.{happened-windows, happened-reports}
-use Rattle.feeding.specs.Taken.{Run, byteTaken, freeAfter, partTaken}
+use Rattle.feeding.specs.Taken.{Run, readAs, byteTaken, freeAfter, partTaken}
 use Rattle.feeding.specs.Right.{Stands, Came}
 use Rattle.feeding.proofs.Reports.{these-none, these-append}
 
@@ -59,7 +59,7 @@ module _ (book : Book) (limits : Within book) (t : List ℕ) (laid : Laid (table
     byte-right : byteTaken t run a ≡ next
     unfolding byteTaken
     byte-right =
-        let step : nextIn t (stateCountIn t) (run .state) a ≡ record { at = state; taken = stepsFor (isState book) (after (isState book) x) a } =
+        let step : nextIn t (stateCountIn t) (run .state) (readAs a) ≡ record { at = state; taken = stepsFor (isState book) (after (isState book) x) a } =
         ap₂ (λ (n i : ℕ). nextIn t n i a) (state-count-laid book limits t laid) (stands .state) ∙ next-after book limits t laid x a in
         let place : run .place + 1 ≡ suc (length x) = omega (arith, stands .place) in
         rw (step, place)

@@ -14,12 +14,12 @@ use Rattle.tables.specs.Reads.{stateCountIn, phraseCountIn}
 use Rattle.stepping.specs.Steps.{nextIn}
 use Rattle.window.specs.Happened.{Here, happened}
 use Rattle.window.proofs.Happened.{happened-long, happened-room, happened-few}
-use Rattle.feeding.specs.Taken.{Run, atStart, stepsWith, byteTaken, freeAfter, partTaken}
+use Rattle.feeding.specs.Taken.{Run, atStart, readAs, stepsWith, byteTaken, freeAfter, partTaken}
 use Rattle.feeding.proofs.Steps.{next-inside, next-few}
 
 -- One byte, put together from the step and from what happens.
 pub byte-taken : (t : List ℕ) (run : Run) (byte : ℕ) (landed : Landed) (place : ℕ) (here : Here)
-    → landed ≡ nextIn t (stateCountIn t) (run .state) byte → place ≡ run .place + 1 → here ≡ happened t (landed .at) place (run .here)
+    → landed ≡ nextIn t (stateCountIn t) (run .state) (readAs byte) → place ≡ run .place + 1 → here ≡ happened t (landed .at) place (run .here)
     → record { state = landed .at; place = place; taken = run .taken + 1; steps = stepsWith (run .steps) landed; here = here } ≡ byteTaken t run byte
 unfolding byteTaken
 byte-taken t run byte landed place here step there what = rw (what, there, step)
@@ -65,14 +65,14 @@ module _ (t : List ℕ) (room : ℕ) (part : List ℕ) where
     unfolding byteTaken
     taking-next more free counted next is =
         let byte : ℕ = getD part (run .taken) 0 in
-        let landed : Landed = nextIn t (stateCountIn t) (run .state) byte in
+        let landed : Landed = nextIn t (stateCountIn t) (run .state) (readAs byte) in
         let place : ℕ = run .place + 1 in
         rw is (record {
           within = omega arith;
           few = omega (arith, happened-few t (landed .at) place (run .here), taking .few);
-          inside = next-inside t (stateCountIn t) (run .state) byte (taking .inside);
+          inside = next-inside t (stateCountIn t) (run .state) (readAs byte) (taking .inside);
           early = omega (arith, taking .early);
-          few-steps = omega (arith, taking .few-steps, next-few t (stateCountIn t) (run .state) byte (taking .inside));
+          few-steps = omega (arith, taking .few-steps, next-few t (stateCountIn t) (run .state) (readAs byte) (taking .inside));
           long = happened-long t (landed .at) place (run .here) ∙ taking .long;
           roomy = happened-room t (landed .at) place (run .here) ∙ taking .roomy;
           rest = ap (λ (k : ℕ). partTaken t room (drop k part) (byteTaken t run byte)) (add-one (run .taken))

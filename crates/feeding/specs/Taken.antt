@@ -37,6 +37,10 @@ atStart state place memory room = record {
   here = record { reports = record { written = 0; room = room }; memory = memory };
 }
 
+-- What a byte of the letter is read as: itself.
+abbrev pub readAs : ℕ → ℕ
+readAs byte = byte
+
 -- The failure steps of a byte are added to those before it.
 abbrev pub stepsWith : ℕ → Landed → ℕ
 stepsWith steps landed = steps + landed .taken
@@ -44,7 +48,7 @@ stepsWith steps landed = steps + landed .taken
 -- One byte: it leads to the next state, and at the next place happens what the state says.
 unfoldable pub byteTaken : List ℕ → Run → ℕ → Run
 byteTaken t run byte =
-    let landed : Landed = nextIn t (stateCountIn t) (run .state) byte in
+    let landed : Landed = nextIn t (stateCountIn t) (run .state) (readAs byte) in
     record {
       state = landed .at;
       place = run .place + 1;

@@ -5,7 +5,7 @@ use Prim.Native.Nat.{ℕ}
 use native.Mathlib.Omega.{arith}
 use Rattle.numbering.specs.Walks.{Landed}
 use Rattle.stepping.specs.Steps.{nextIn}
-use Rattle.feeding.specs.Taken.{runOf}
+use Rattle.feeding.specs.Taken.{runOf, readAs}
 use Rattle.feeding.proofs.Steps.{next-few}
 use Rattle.feeding.proofs.Turns.{byte-taken}
 use borrow.Author.Needs.{needs}
@@ -28,7 +28,7 @@ add-t16 : tie.Need-add-t16
 add-t16 c =
     let b = c .before .before .before .before .before .before .before .before .before .before .before .before in
     let a = b .before .before .before .before .args in
-    omega (arith, next-few (a .t .now) (a .states) (a .progress .state .0) (a .byte) (omega arith), ap (λ (l : Landed). l .taken) (b .next-state .ensures .0))
+    omega (arith, next-few (a .t .now) (a .states) (a .progress .state .0) (readAs (a .byte)) (omega arith), ap (λ (l : Landed). l .taken) (b .next-state .ensures .0))
 
 same-length : tie.Need-same-length
 same-length c = search needs
@@ -41,7 +41,7 @@ returns c =
     let b = c .before .before .before .before .before .before .before .before .before .before .before .before in
     let a = b .before .before .before .before .args in
     let start = b .before .before .before .before .pre in
-    let counted = ap (λ (n : ℕ). nextIn (a .t .now) n (a .progress .state .0) (a .byte)) (start .counted) in
+    let counted = ap (λ (n : ℕ). nextIn (a .t .now) n (a .progress .state .0) (readAs (a .byte))) (start .counted) in
     let place = c .before .before .before .before .before .before .before .before .before .before .next .ensures in
     byte-taken (a .t .now) (runOf (a .progress) (a .m .now) (a .room .now)) (a .byte) _ _ _ (b .next-state .ensures .0 ∙ counted) place
     (c .before .before .before .before .before .before .before .happen .ensures)
