@@ -27,9 +27,9 @@ use Rattle.gliding.proofs.Laid.{quick-after, depth-after, steps-paid}
 use Rattle.marks.specs.Reported.{Reports}
 use Rattle.window.specs.Happened.{happened}
 use Rattle.window.proofs.Happened.{happened-long, happened-few}
-use Rattle.tracking.specs.Places.{Elsewhere}
+use Rattle.window.specs.Places.{Elsewhere}
 use Rattle.tracking.specs.Reports.{withThese}
-use Rattle.tracking.proofs.Step.{elsewhere-step, bytes-step}
+use Rattle.window.proofs.Step.{elsewhere-step, bytes-step}
 use Rattle.tracking.proofs.Byte.{happened-windows, happened-reports}
 use Rattle.feeding.specs.Taken.{Run, byteTaken, freeAfter, partTaken, stepsOf, stepsSince}
 use Rattle.feeding.specs.Right.{Stands, Came}

@@ -10,7 +10,7 @@ use Rattle.meaning.specs.Calls.{reportsAfter, stepsAfter}
 use Rattle.numbering.specs.States.{numberIn}
 use Rattle.running.specs.Reads.{WholeRunning}
 use Rattle.running.specs.Held.{Windows}
-use Rattle.tracking.specs.Places.{Elsewhere}
+use Rattle.window.specs.Places.{Elsewhere}
 use Rattle.tracking.specs.Reports.{withThese}
 use Rattle.feeding.specs.Taken.{Run}
 

@@ -7,10 +7,10 @@ use Prim.Native.Nat.{ℕ, zero, suc, _≤_, _<_}
 use native.Mathlib.Omega.{arith}
 use lib.Dec.{ltb, eqb}
 use borrow.Author.Tests.{lt-ltb, le-ltb, le-leb, lt-leb, eq-eqb, ne-eqb, ltb-false, eqb-true}
-use Rattle.tables.specs.Reads.{columnIn, cellIn, backIn}
+use Rattle.tables.specs.Reads.{cellIn, backIn}
 use Rattle.tables.proofs.Followed.{back-below}
 use Rattle.stepping.specs.Steps.{childByIn}
-use Rattle.gliding.specs.Quick.{lastColumn, hasColumn, rowIn, rowsEnd, soughtWithin, soughtIn}
+use Rattle.gliding.specs.Quick.{columnFor, lastColumn, hasColumn, rowIn, rowsEnd, soughtWithin, soughtIn}
 
 -- The number at which the walk goes on is that of the failure, and smaller.
 pub smaller : (t : List ℕ) (from state back next : ℕ) → 0 < from → state ≡ from → back ≡ backIn t state → next ≡ back → (next ≡ backIn t from) × (next < from)
@@ -26,13 +26,13 @@ module _ (t : List ℕ) (states dense byte : ℕ) where
   row-no-byte large i = rw (le-ltb byte 256 large)
 
   module _ (is-byte : byte < 256) (i : ℕ) where
-    pub row-none : lastColumn dense < columnIn t byte → rowIn t states dense i byte ≡ states
+    pub row-none : lastColumn dense < columnFor t byte → rowIn t states dense i byte ≡ states
     unfolding rowIn hasColumn
-    row-none late = rw (lt-ltb byte 256 is-byte, lt-leb (columnIn t byte) (lastColumn dense) late)
+    row-none late = rw (lt-ltb byte 256 is-byte, lt-leb (columnFor t byte) (lastColumn dense) late)
 
-    pub row-cell : columnIn t byte ≤ lastColumn dense → rowIn t states dense i byte ≡ cellIn t (columnIn t byte) i
+    pub row-cell : columnFor t byte ≤ lastColumn dense → rowIn t states dense i byte ≡ cellIn t (columnFor t byte) i
     unfolding rowIn hasColumn
-    row-cell early = rw (lt-ltb byte 256 is-byte, le-leb (columnIn t byte) (lastColumn dense) early)
+    row-cell early = rw (lt-ltb byte 256 is-byte, le-leb (columnFor t byte) (lastColumn dense) early)
 
   -- ── So many states ──
 

@@ -10,14 +10,18 @@ use Rattle.stepping.specs.Steps.{childByIn}
 abbrev pub lastColumn : ℕ → ℕ
 lastColumn dense = 49152 - 2 * dense
 
+-- The column in which the cells for a byte stand: the byte's own.
+abbrev pub columnFor : List ℕ → ℕ → ℕ
+columnFor t byte = columnIn t byte
+
 -- A byte has a column where a cell for each dense state fits.
 unfoldable pub hasColumn : List ℕ → ℕ → ℕ → Bool
-hasColumn t dense byte = ltb byte 256 && leb (columnIn t byte) (lastColumn dense)
+hasColumn t dense byte = ltb byte 256 && leb (columnFor t byte) (lastColumn dense)
 
 -- What the row of dense state i has for the byte: its cell. Without a column it is the number of the states, which no state has.
 unfoldable pub rowIn : List ℕ → ℕ → ℕ → ℕ → ℕ → ℕ
 unfolding hasColumn
-rowIn t states dense i byte = cond (hasColumn t dense byte) (cellIn t (columnIn t byte) i) states
+rowIn t states dense i byte = cond (hasColumn t dense byte) (cellIn t (columnFor t byte) i) states
 
 -- The states below this number have a row: the dense ones.
 abbrev pub rowsEnd : ℕ → ℕ

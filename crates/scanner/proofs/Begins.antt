@@ -17,7 +17,7 @@ use Rattle.running.specs.Reads.{WholeRunning}
 use Rattle.window.specs.Begun.{windowsBegun}
 use Rattle.window.proofs.Begun.{length-begun}
 use Rattle.tracking.specs.Head.{begunWith}
-use Rattle.tracking.proofs.Begin.{past-begin, bytes-begin}
+use Rattle.window.proofs.Begin.{past-begin, bytes-begin}
 use Rattle.tracking.proofs.Head.{laid-begin}
 use Rattle.scanner.specs.Answers.{begunNumber}
 use Rattle.scanner.specs.Exact.{BeginEnd, beginOf}

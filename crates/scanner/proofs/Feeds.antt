@@ -1,7 +1,7 @@
 -- On the memory of a book after x, feed takes what the rule says, and leaves the book's memory after x and the bytes taken: the bytes are
 -- taken right, and state and place are written.
 -- Assumes nothing.
-use mathlib.Core.Path.{_≡_, refl, sym, ap, ap₂, _∙_}
+use mathlib.Core.Path.{_≡_, refl, sym, subst, ap, ap₂, _∙_}
 use mathlib.Core.Logic.{_⊎_, inl, inr}
 use mathlib.Core.Bool.{Bool, true, false, So}
 use mathlib.Core.List.{List, _++_}
@@ -18,12 +18,13 @@ use Rattle.meaning.proofs.After.{after-state}
 use Rattle.numbering.specs.States.{numberIn}
 use Rattle.numbering.proofs.Keywords.{within-bytes}
 use Rattle.numbering.proofs.States.{number-below}
+use Rattle.tables.specs.Regions.{Laid}
 use Rattle.tables.specs.Layout.{tablesSize}
 use Rattle.tables.specs.Reads.{stateCountIn, phraseCountIn}
 use Rattle.tables.specs.Passing.{tablesPass}
 use Rattle.tables.proofs.Passing.{laid-pass}
 use Rattle.tables.proofs.Fields.{state-count-laid, phrase-count-laid, mark-laid}
-use Rattle.running.specs.Layout.{runningSize, stateAt, placeAt}
+use Rattle.running.specs.Layout.{runningSize, runningLayout, stateAt, placeAt}
 use Rattle.running.specs.Reads.{WholeRunning}
 use Rattle.running.specs.Held.{Held}
 use Rattle.running.proofs.Held.{laid-held}
@@ -126,30 +127,29 @@ module _ (book : Book) (x t m : List ℕ) (tables : TablesOf book t) (running : 
     read-early : length read ≤ largestPlace
     read-early = rw (length-append, length-take) (omega arith)
 
-    -- The state and the place that are written are those of the bytes read.
-    abbrev reached : ℕ
-    reached = numberIn book (after (isState book) read)
+    memory-long : length (memoryAfter end state (length x)) ≡ length m
+    memory-long = length-moved (end .here .memory) _ _ ∙ came .long
 
-    memory-written : memoryAfter end state (length x) ≡ movedTo (end .here .memory) reached (length read)
-    memory-written = ap₂ (movedTo (end .here .memory)) (came .stands .state) (came .stands .place)
-
+    -- The memory is the book's after the bytes read: the state and the place that are written are theirs, and so are the windows.
     memory-right : RunningOf book read (memoryAfter end state (length x))
     memory-right =
         let right = came .stands in
-        rw memory-written (record {
+        record {
           early = read-early;
-          long = rw (length-moved (end .here .memory) reached (length read), came .long) (running .long);
-          laid = laid-moved book (tables .limits) x read m (end .here .memory) (right .whole) (right .bytes) (omega (arith, read-early)) (running .laid)
-              (λ i below. came .elsewhere i (inl below)) (right .windows);
-          bytes = moved-bytes (end .here .memory) reached (length read) (right .bytes);
-        })
+          long = rw memory-long (running .long);
+          laid = subst (λ (k : ℕ). Laid (runningLayout book read) (movedTo (end .here .memory) k (end .place))) (sym (right .state))
+              (subst (λ (k : ℕ). Laid (runningLayout book read) (movedTo (end .here .memory) reached k)) (sym (right .place))
+              (laid-moved book (tables .limits) x read m (end .here .memory) (right .whole) (right .bytes) (omega (arith, read-early)) (running .laid)
+              (λ i below. came .elsewhere i (inl below)) (right .windows)));
+          bytes = moved-bytes (end .here .memory) _ _ (right .bytes);
+        }
+      where
+        reached : ℕ
+        reached = numberIn book (after (isState book) read)
 
     memory-past : PastKept m (memoryAfter end state (length x))
     unfolding runningSize
-    memory-past = rw memory-written (
-      length-moved (end .here .memory) reached (length read) ∙ came .long,
-      λ i above. moved-apart (end .here .memory) reached (length read) i (omega arith) ∙ came .elsewhere i (inr above),
-    )
+    memory-past = (memory-long, λ i above. moved-apart (end .here .memory) _ _ i (omega arith) ∙ came .elsewhere i (inr above))
 
     said-right : said (tookFrom t m part room state (length x) .answer) ≡ record {
       number = 0;

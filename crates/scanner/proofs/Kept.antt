@@ -13,7 +13,7 @@ use Rattle.lent.specs.Numbers.{Bytes, numberAt, withNumber}
 use Rattle.lent.proofs.Numbers.{length-withNumber, number-written, number-apart, number-below, number-agree}
 use Rattle.tables.specs.Layout.{roomForPieces}
 use Rattle.tables.specs.Layout as tables
-use Rattle.tables.specs.Reads.{pieceCountIn, stateCountIn, denseIn, phraseCountIn, markIn, rankIn, lastIn, firstIn, delayIn}
+use Rattle.tables.specs.Reads.{pieceCountIn, stateCountIn, denseIn, phraseCountIn, markIn, rankIn, lastIn, firstIn}
 use Rattle.tables.specs.Passing.{tablesPass}
 use Rattle.tables.proofs.Passing as passing
 use Rattle.tables.proofs.Parts.{number-zero}
@@ -22,7 +22,7 @@ use Rattle.running.specs.Reads.{WholeRunning, closingPlaceIn}
 use Rattle.marks.specs.Marked.{noMarks, withMark}
 use Rattle.gliding.specs.Quick.{quickIn}
 use Rattle.gliding.proofs.Turns.{quick-inside}
-use Rattle.window.specs.Waiting.{slotOf, withWaitingFrom}
+use Rattle.window.specs.Waiting.{slotFrom, withWaitingFrom}
 use Rattle.lent.specs.Zeros.{withZeros}
 use Rattle.window.specs.Opening.{slotOpened}
 use Rattle.window.specs.Begun.{waitingIfFirst, firstsWaiting, windowsBegun}
@@ -33,10 +33,10 @@ use Rattle.lent.proofs.Zeros.{length-zeros, zeros-there}
 use Rattle.window.proofs.Opening.{length-slot}
 use Rattle.window.proofs.Waiting.{length-waiting-from}
 use Rattle.window.proofs.Happened.{happened-long}
-use Rattle.tracking.specs.Places.{sizeNumber, Elsewhere}
+use Rattle.window.specs.Places.{sizeNumber, Elsewhere}
 use Rattle.tracking.specs.Head.{begunWith, movedTo}
-use Rattle.tracking.proofs.Waiting.{byte-waiting}
-use Rattle.tracking.proofs.Slots.{byte-slot}
+use Rattle.window.proofs.WaitingRead.{byte-waiting}
+use Rattle.window.proofs.Slots.{byte-slot}
 use Rattle.feeding.specs.Taken.{Run, atStart, byteTaken, partTaken}
 use Rattle.feeding.specs.Ready.{Ready}
 use Rattle.scanner.specs.Answers.{begunNumber}
@@ -53,7 +53,7 @@ use Rattle.scanner.proofs.Feeds.{length-moved}
 module _ (t : List ℕ) (i : ℕ) (there : Elsewhere i) where
   waits-elsewhere : (m : List ℕ) (p place : ℕ) → WholeRunning m → p < roomForPieces → getD (withWaitingFrom t m p place) i 0 ≡ getD m i 0
   unfolding withWaitingFrom
-  waits-elsewhere m p place sized piece = byte-waiting m (slotOf (place + delayIn t p)) p sized (omega arith) piece i there
+  waits-elsewhere m p place sized piece = byte-waiting m (slotFrom t p place) p sized (omega arith) piece i there
 
   firsts-elsewhere : (m : List ℕ) (n : ℕ) → WholeRunning m → n ≤ roomForPieces → getD (firstsWaiting t m n) i 0 ≡ getD m i 0
   unfolding firstsWaiting waitingIfFirst

@@ -17,7 +17,7 @@ use Rattle.tables.specs.Reads.{Whole, stateCountIn, markIn}
 use Rattle.tables.proofs.Parts.{number-zero}
 use Rattle.running.specs.Layout.{runningSize, tagAt, runningTag}
 use Rattle.running.specs.Reads.{WholeRunning}
-use Rattle.scanner.specs.Passing.{largestPlace, tagHeld, stateHeld, placeHeld, markHeld, tooSmall, RunningPass, runningPass}
+use Rattle.scanner.specs.Passing.{largestPlace, tagHeld, stateHeld, placeHeld, markHeld, tagAsked, tooSmall, RunningPass, runningPass}
 use Rattle.scanner.specs.Promised.{Small}
 
 -- ── Sizes ──
@@ -60,23 +60,23 @@ module _ (t m : List ℕ) where
   pass-small e = rw e
 
   module _ (large-enough : tooSmall t m ≡ false) where
-    pub pass-tag : (tagHeld m ≡ runningTag → ⊥) → runningPass t m ≡ false
+    pub pass-tag : (tagHeld m ≡ tagAsked → ⊥) → runningPass t m ≡ false
     unfolding runningPass
-    pass-tag h = rw (large-enough, ne-eqb (tagHeld m) runningTag h)
+    pass-tag h = rw (large-enough, ne-eqb (tagHeld m) tagAsked h)
 
-    module _ (tag : tagHeld m ≡ runningTag) where
+    module _ (tag : tagHeld m ≡ tagAsked) where
       pub pass-state : stateCountIn t ≤ stateHeld m → runningPass t m ≡ false
       unfolding runningPass
-      pass-state h = rw (large-enough, eq-eqb (tagHeld m) runningTag tag, le-ltb (stateHeld m) (stateCountIn t) h)
+      pass-state h = rw (large-enough, eq-eqb (tagHeld m) tagAsked tag, le-ltb (stateHeld m) (stateCountIn t) h)
 
       module _ (state : stateHeld m < stateCountIn t) where
         pub pass-place : largestPlace < placeHeld m → runningPass t m ≡ false
         unfolding runningPass
-        pass-place h = rw (large-enough, eq-eqb (tagHeld m) runningTag tag, lt-ltb (stateHeld m) (stateCountIn t) state, lt-leb (placeHeld m) largestPlace h)
+        pass-place h = rw (large-enough, eq-eqb (tagHeld m) tagAsked tag, lt-ltb (stateHeld m) (stateCountIn t) state, lt-leb (placeHeld m) largestPlace h)
 
         pub pass-mark : placeHeld m ≤ largestPlace → runningPass t m ≡ eqb (markHeld m) (markIn t)
         unfolding runningPass
-        pass-mark h = rw (large-enough, eq-eqb (tagHeld m) runningTag tag, lt-ltb (stateHeld m) (stateCountIn t) state, le-leb (placeHeld m) largestPlace h)
+        pass-mark h = rw (large-enough, eq-eqb (tagHeld m) tagAsked tag, lt-ltb (stateHeld m) (stateCountIn t) state, le-leb (placeHeld m) largestPlace h)
 
   -- ── What passes ──
 
@@ -96,7 +96,7 @@ module _ (t m : List ℕ) where
       record {
         tables = s .0;
         memory = s .1;
-        tag = eqb-true (tagHeld m) runningTag (b .0);
+        tag = eqb-true (tagHeld m) tagAsked (b .0);
         state = ltb-true (stateHeld m) (stateCountIn t) (c .0);
         place = leb-true (placeHeld m) largestPlace (d .0);
         mark = eqb-true (markHeld m) (markIn t) (d .1);

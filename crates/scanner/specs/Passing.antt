@@ -29,6 +29,10 @@ placeHeld m = numberAt 8 m placeAt
 abbrev pub markHeld : List ℕ → ℕ
 markHeld m = numberAt 8 m markAt
 
+-- The tag that is asked for: that of begun memory, which is never zero.
+abbrev pub tagAsked : ℕ
+tagAsked = runningTag
+
 -- Lent table memory or running memory is below its published size.
 unfoldable pub tooSmall : List ℕ → List ℕ → Bool
 tooSmall t m = ltb (length t) tablesSize || ltb (length m) runningSize
@@ -38,7 +42,7 @@ tooSmall t m = ltb (length t) tablesSize || ltb (length m) runningSize
 pub record RunningPass (t m : List ℕ) : Type 0 where
   pub tables : tablesSize ≤ length t
   pub memory : runningSize ≤ length m
-  pub tag : tagHeld m ≡ runningTag
+  pub tag : tagHeld m ≡ tagAsked
   pub state : stateHeld m < stateCountIn t
   pub place : placeHeld m ≤ largestPlace
   pub mark : markHeld m ≡ markIn t
@@ -47,7 +51,7 @@ pub record RunningPass (t m : List ℕ) : Type 0 where
 unfoldable pub runningPass : List ℕ → List ℕ → Bool
 runningPass t m =
     not (tooSmall t m)
-    && (eqb (tagHeld m) runningTag
+    && (eqb (tagHeld m) tagAsked
     && (ltb (stateHeld m) (stateCountIn t)
     && (leb (placeHeld m) largestPlace
     && eqb (markHeld m) (markIn t))))

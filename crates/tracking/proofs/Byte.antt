@@ -27,7 +27,7 @@ use Rattle.window.proofs.Opening.{length-slot}
 use Rattle.window.proofs.Ending.{length-pieces}
 use Rattle.tracking.specs.Head.{movedTo}
 use Rattle.tracking.specs.Reports.{withThese}
-use Rattle.tracking.proofs.Step.{windows-step, marks-step, elsewhere-step, bytes-step}
+use Rattle.window.proofs.Step.{windows-step, marks-step, elsewhere-step, bytes-step}
 use Rattle.tracking.proofs.Head.{laid-moved}
 use Rattle.tracking.proofs.Reports.{reported-reports}
 

@@ -34,7 +34,7 @@ use Rattle.running.proofs.Held.{laid-held, held-laid}
 use Rattle.window.specs.Begun.{windowsBegun}
 use Rattle.window.proofs.Begun.{length-begun}
 use Rattle.tracking.specs.Head.{begunWith, movedTo}
-use Rattle.tracking.proofs.Begin.{windows-begin, head-begin, bytes-begin}
+use Rattle.window.proofs.Begin.{windows-begin, head-begin, bytes-begin}
 
 -- ── Windows lie past the head ──
 

@@ -1,12 +1,3 @@
-pub mod Waiting
-pub mod Opening
-pub mod Emptying
-pub mod Slots
-pub mod Tables
-pub mod Ending
-pub mod Same
-pub mod Step
-pub mod Begin
 pub mod Head
 pub mod Reports
 pub mod Byte

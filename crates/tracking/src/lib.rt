@@ -1,1 +1,1 @@
-// No code: that the windows in lent running memory are the book's after every byte is proved in proofs/.
+// No code: that lent running memory and the reports are the book's after every byte is proved in proofs/.

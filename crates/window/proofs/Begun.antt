@@ -6,12 +6,10 @@ use mathlib.Core.List.{List}
 use Prim.Native.Nat.{ℕ, zero, suc, _+_}
 use native.Mathlib.Numerals.{add-one}
 use lib.ListN.{length}
-use Rattle.lent.specs.Zeros.{withZeros}
 use Rattle.lent.proofs.Zeros.{length-zeros}
-use Rattle.tables.specs.Reads.{pieceCountIn, firstIn}
-use Rattle.running.specs.Layout.{runningSize}
+use Rattle.tables.specs.Reads.{firstIn}
 use Rattle.window.specs.Waiting.{withWaitingFrom}
-use Rattle.window.specs.Begun.{waitingIfFirst, firstsWaiting, windowsBegun}
+use Rattle.window.specs.Begun.{waitingIfFirst, firstsWaiting, cleared, lookedThrough, windowsBegun}
 use Rattle.window.proofs.Waiting.{length-waiting-from}
 
 module _ (t m : List ℕ) (p : ℕ) where
@@ -40,6 +38,9 @@ unfolding firstsWaiting
 length-firsts t m zero = refl
 length-firsts t m (suc p) = length-first t (firstsWaiting t m p) p ∙ length-firsts t m p
 
+pub length-cleared : (m : List ℕ) → length (cleared m) ≡ length m
+length-cleared m = length-zeros m 0 _
+
 pub length-begun : (t m : List ℕ) → length (windowsBegun t m) ≡ length m
 unfolding windowsBegun
-length-begun t m = length-firsts t (withZeros m 0 runningSize) (pieceCountIn t) ∙ length-zeros m 0 runningSize
+length-begun t m = length-firsts t (cleared m) (lookedThrough t) ∙ length-cleared m

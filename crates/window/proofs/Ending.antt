@@ -14,7 +14,7 @@ use Rattle.marks.specs.Marked.{noMarks, withMark}
 use Rattle.marks.specs.declared.Marks.{Marks}
 use Rattle.running.specs.Reads.{closingPlaceIn}
 use Rattle.window.specs.Waiting.{withWaitingFrom}
-use Rattle.window.specs.Ending.{firstLinkIn, piecesIn, Ended, pieceEnded, piecesEnded}
+use Rattle.window.specs.Ending.{firstLinkIn, mostLooked, piecesIn, Ended, pieceEnded, piecesEnded}
 use Rattle.window.proofs.Waiting.{length-waiting-from}
 
 -- ── The first piece of a state ──
@@ -82,15 +82,15 @@ chain-more onward most (suc p) some =
 
 -- Where the walk along the links stands: it has looked at some pieces, and those from a link on make up what comes of all.
 pub record Walk (t : List ℕ) (place : ℕ) (m₀ : List ℕ) (goal : Ended) (m : List ℕ) (marks : Marks) (link looked : ℕ) : Type 0 where
-  pub within : looked ≤ roomForPieces
+  pub within : looked ≤ mostLooked
   pub low : link ≤ roomForPieces
   pub long : length m ≡ length m₀
-  pub rest : piecesEnded t place (record { marks = marks; memory = m }) (chain (onwardIn t) (roomForPieces - looked) link) ≡ goal
+  pub rest : piecesEnded t place (record { marks = marks; memory = m }) (chain (onwardIn t) (mostLooked - looked) link) ≡ goal
 
 module _ (t : List ℕ) (place : ℕ) (m₀ : List ℕ) where
   -- What the pieces from a link on come to at first.
   abbrev pub whole : Marks → ℕ → Ended
-  whole marks link = piecesEnded t place (record { marks = marks; memory = m₀ }) (chain (onwardIn t) roomForPieces link)
+  whole marks link = piecesEnded t place (record { marks = marks; memory = m₀ }) (chain (onwardIn t) mostLooked link)
 
   pub walk-start : (marks : Marks) (link : ℕ) → link ≤ roomForPieces → Walk t place m₀ (whole marks link) m₀ marks link 0
   walk-start marks link low = record { within = omega arith; low = low; long = refl; rest = refl }
@@ -108,7 +108,7 @@ module _ (t : List ℕ) (place : ℕ) (m₀ : List ℕ) where
     abbrev from : List ℕ → Ended
     from pieces = piecesEnded t place so-far pieces
 
-    pub walk-next : looked < roomForPieces → (link ≡ 0 → ⊥)
+    pub walk-next : looked < mostLooked → (link ≡ 0 → ⊥)
         → (m' : List ℕ) (marks' : Marks) → record { marks = marks'; memory = m' } ≡ pieceEnded t place so-far (link - 1)
         → (link' : ℕ) → link' ≡ onwardIn t (link - 1) → link' ≤ roomForPieces → Walk t place m₀ goal m' marks' link' (looked + 1)
     unfolding piecesEnded
@@ -120,21 +120,21 @@ module _ (t : List ℕ) (place : ℕ) (m₀ : List ℕ) where
     }
       where
         later : List ℕ
-        later = chain (onwardIn t) (roomForPieces - (looked + 1)) link'
+        later = chain (onwardIn t) (mostLooked - (looked + 1)) link'
 
-        met : chain (onwardIn t) (roomForPieces - looked) link ≡ (link - 1) ∷ later
+        met : chain (onwardIn t) (mostLooked - looked) link ≡ (link - 1) ∷ later
         met =
-            let z : roomForPieces - looked ≡ suc (roomForPieces - (looked + 1)) = omega arith in
+            let z : mostLooked - looked ≡ suc (mostLooked - (looked + 1)) = omega arith in
             ap (λ (n : ℕ). chain (onwardIn t) n link) z
-            ∙ chain-more (onwardIn t) (roomForPieces - (looked + 1)) link some
-            ∙ ap (λ (l : ℕ). (link - 1) ∷ chain (onwardIn t) (roomForPieces - (looked + 1)) l) (sym e)
+            ∙ chain-more (onwardIn t) (mostLooked - (looked + 1)) link some
+            ∙ ap (λ (l : ℕ). (link - 1) ∷ chain (onwardIn t) (mostLooked - (looked + 1)) l) (sym e)
 
     pub walk-stop : link ≡ 0 → so-far ≡ goal
     unfolding piecesEnded
-    walk-stop e = sym (ap from (chain-none (onwardIn t) (roomForPieces - looked) link e)) ∙ walk .rest
+    walk-stop e = sym (ap from (chain-none (onwardIn t) (mostLooked - looked) link e)) ∙ walk .rest
 
-    pub walk-end : roomForPieces ≤ looked → so-far ≡ goal
+    pub walk-end : mostLooked ≤ looked → so-far ≡ goal
     unfolding piecesEnded chain
     walk-end past =
-        let z : roomForPieces - looked ≡ 0 = omega arith in
+        let z : mostLooked - looked ≡ 0 = omega arith in
         sym (ap (λ (n : ℕ). from (chain (onwardIn t) n link)) z) ∙ walk .rest

@@ -4,3 +4,12 @@ pub mod Opening
 pub mod Ending
 pub mod Begun
 pub mod Happened
+pub mod WaitingRead
+pub mod OpeningRead
+pub mod Emptying
+pub mod Slots
+pub mod Tables
+pub mod EndingRead
+pub mod Same
+pub mod Step
+pub mod Begin

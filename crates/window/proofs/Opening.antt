@@ -1,6 +1,6 @@
 -- Opening windows changes closing places alone, and the ring as it was says which: so what waits stays the same while windows open, one
 -- piece after the other. Assumes nothing.
-use mathlib.Core.Path.{_≡_, refl, sym, ap, _∙_}
+use mathlib.Core.Path.{_≡_, refl, sym, ap, ap₂, _∙_}
 use mathlib.Core.Logic.{_⊎_, inl, inr}
 use mathlib.Core.Bool.{Bool, true, false, cond}
 use mathlib.Core.List.{List}
@@ -11,6 +11,7 @@ use native.Mathlib.Omega.{arith}
 use lib.Dec.{eqb}
 use lib.ListN.{length, getD, length-set}
 use borrow.Author.Tests.{eq-eqb, ne-eqb}
+use Rattle.counters.specs.Counters.{placeOf}
 use Rattle.lent.specs.Numbers.{Apart}
 use Rattle.lent.specs.Zeros.{withZeros}
 use Rattle.lent.proofs.Numbers.{length-withNumber, number-byte-apart}
@@ -18,15 +19,15 @@ use Rattle.lent.proofs.Zeros.{length-zeros}
 use Rattle.bits.specs.Bits.{bitOf, First}
 use Rattle.bits.proofs.Lowest.{first-same}
 use Rattle.counters.specs.declared.Place.{Place}
-use Rattle.closing.specs.Windows.{renewedTo}
-use Rattle.closing.specs.declared.Window.{Window}
 use Rattle.tables.specs.Layout.{roomForPieces}
 use Rattle.tables.specs.Reads.{spanIn}
 use Rattle.running.specs.Waiting.{never}
 use Rattle.running.specs.Layout.{flagAt, closingAt, ringAt, slotLength}
-use Rattle.running.specs.Reads.{flagIn, slotAt, bitAt, waitsIn}
+use Rattle.running.specs.Reads.{flagIn, closingPlaceIn, slotAt, bitAt, waitsIn}
 use Rattle.window.specs.Waiting.{slotOf}
-use Rattle.window.specs.Opening.{openSpan, closesAfter, withClosing, windowOpened, windowsOpened, slotEmptied, slotOpened}
+use Rattle.window.specs.Closing.{renewedTo}
+use Rattle.window.specs.declared.closing.Window.{Window}
+use Rattle.window.specs.Opening.{openSpan, closesAfter, replacedBy, withClosing, windowOpened, windowsOpened, slotEmptied, slotOpened}
 
 -- ── One window ──
 
@@ -39,21 +40,28 @@ module _ (span opened : ℕ) where
   unfolding closesAfter
   closes-later differ = rw (ne-eqb span openSpan differ)
 
--- A window that is renewed and put back has opened.
-pub renewed-opens : (t : List ℕ) (place : ℕ) (m m' : List ℕ) (p span : ℕ) (closes : Place) (was window : Window)
-    → span ≡ spanIn t p → closes .0 ≡ closesAfter span place → window ≡ renewedTo was closes → m' ≡ withClosing m p (window .closes .0) → m' ≡ windowOpened t place m p
+-- A window is its closing place, so it is renewed where that is.
+pub renewed-is : (was window : Window) (newer : Place) → window .closes .0 ≡ replacedBy (was .closes .0) (newer .0) → window ≡ renewedTo was newer
+unfolding renewedTo
+renewed-is was window newer e = ap (λ (n : ℕ). record { closes = placeOf n }) e
+
+-- A window that is read, renewed and put back has opened.
+pub renewed-opens : (t : List ℕ) (place : ℕ) (m m' : List ℕ) (p span : ℕ) (newer : Place) (was window : Window)
+    → was .closes .0 ≡ closingPlaceIn m p → span ≡ spanIn t p → newer .0 ≡ closesAfter span place → window ≡ renewedTo was newer
+    → m' ≡ withClosing m p (window .closes .0) → m' ≡ windowOpened t place m p
 unfolding windowOpened renewedTo
-renewed-opens t place m m' p span closes was window e c f put =
-    put ∙ ap (λ (w : Window). withClosing m p (w .closes .0)) f ∙ ap (withClosing m p) (c ∙ ap (λ (k : ℕ). closesAfter k place) e)
+renewed-opens t place m m' p span newer was window read e c f put =
+    put ∙ ap (λ (w : Window). withClosing m p (w .closes .0)) f
+    ∙ ap₂ (λ (k n : ℕ). withClosing m p (replacedBy k n)) read (c ∙ ap (λ (k : ℕ). closesAfter k place) e)
 
 module _ (t : List ℕ) (place : ℕ) (m : List ℕ) (p : ℕ) where
   pub length-opened : length (windowOpened t place m p) ≡ length m
   unfolding windowOpened withClosing
-  length-opened = length-withNumber 8 m (closingAt + 8 * p) (closesAfter (spanIn t p) place)
+  length-opened = length-withNumber 8 m (closingAt + 8 * p) _
 
   pub opened-apart : (i : ℕ) → Apart i 1 (closingAt + 8 * p) 8 → getD (windowOpened t place m p) i 0 ≡ getD m i 0
   unfolding windowOpened withClosing
-  opened-apart i apart = number-byte-apart 8 m (closingAt + 8 * p) (closesAfter (spanIn t p) place) i apart
+  opened-apart i apart = number-byte-apart 8 m (closingAt + 8 * p) _ i apart
 
 -- ── The windows of some pieces ──
 

@@ -16,6 +16,14 @@ unfoldable pub firstsWaiting : List ℕ → List ℕ → ℕ → List ℕ
 firstsWaiting t m zero = m
 firstsWaiting t m (suc p) = waitingIfFirst t (firstsWaiting t m p) p
 
--- The running memory with nothing in it but the windows of the first pieces, whatever it held.
+-- The running memory with nothing in it, whatever it held.
+abbrev pub cleared : List ℕ → List ℕ
+cleared m = withZeros m 0 runningSize
+
+-- How many pieces are looked at: all that the tables have.
+abbrev pub lookedThrough : List ℕ → ℕ
+lookedThrough t = pieceCountIn t
+
+-- The running memory with nothing in it but the windows of the first pieces.
 unfoldable pub windowsBegun : List ℕ → List ℕ → List ℕ
-windowsBegun t m = firstsWaiting t (withZeros m 0 runningSize) (pieceCountIn t)
+windowsBegun t m = firstsWaiting t (cleared m) (lookedThrough t)

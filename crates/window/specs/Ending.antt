@@ -16,9 +16,13 @@ use Rattle.window.specs.Waiting.{withWaitingFrom}
 unfoldable pub firstLinkIn : List ℕ → ℕ → ℕ
 firstLinkIn t state = cond (endingIn t state) (outIn t state + 1) 0
 
+-- How many pieces are looked at in a state at most: as many as a book has at most.
+abbrev pub mostLooked : ℕ
+mostLooked = roomForPieces
+
 -- The pieces whose keyword ends in a state, in the order in which they are looked at: at most 256, whatever the links are.
 unfoldable pub piecesIn : List ℕ → ℕ → List ℕ
-piecesIn t state = chain (onwardIn t) roomForPieces (firstLinkIn t state)
+piecesIn t state = chain (onwardIn t) mostLooked (firstLinkIn t state)
 
 -- What has come of the pieces looked at so far: the phrases marked, and the running memory.
 pub record Ended : Type 0 where

@@ -11,7 +11,7 @@ use Rattle.tables.specs.Layout.{roomForPieces}
 use Rattle.tables.specs.Reads.{spanIn}
 use Rattle.running.specs.Waiting.{never}
 use Rattle.running.specs.Layout.{flagAt, closingAt, slotLength}
-use Rattle.running.specs.Reads.{flagIn, slotAt, waitsIn}
+use Rattle.running.specs.Reads.{flagIn, closingPlaceIn, slotAt, waitsIn}
 use Rattle.window.specs.Waiting.{slotOf}
 
 -- The span of an open gap: its window never closes.
@@ -22,13 +22,17 @@ openSpan = 65535
 unfoldable pub closesAfter : ℕ → ℕ → ℕ
 closesAfter span opened = cond (eqb span openSpan) never (opened + span)
 
+-- What a closing place is replaced by once a window opens: whatever it was, by that of the newer window, which is the later one.
+abbrev pub replacedBy : ℕ → ℕ → ℕ
+replacedBy was newer = newer
+
 -- The memory with a closing place for piece p.
 unfoldable pub withClosing : List ℕ → ℕ → ℕ → List ℕ
 withClosing m p closes = withNumber 8 m (closingAt + 8 * p) closes
 
 -- The memory once a window of piece p opens at a place.
 unfoldable pub windowOpened : List ℕ → ℕ → List ℕ → ℕ → List ℕ
-windowOpened t place m p = withClosing m p (closesAfter (spanIn t p) place)
+windowOpened t place m p = withClosing m p (replacedBy (closingPlaceIn m p) (closesAfter (spanIn t p) place))
 
 -- The memory once a window opens of each piece below n of which a test holds.
 unfoldable pub windowsOpened : List ℕ → ℕ → (ℕ → Bool) → List ℕ → ℕ → List ℕ

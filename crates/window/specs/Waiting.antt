@@ -20,7 +20,11 @@ flagged = 128
 unfoldable pub withWaiting : List ℕ → ℕ → ℕ → List ℕ
 withWaiting m q p = set (set m (bitAt q p) (setBit (getD m (bitAt q p) 0) (p % 8))) (flagAt + q) flagged
 
--- The memory with piece p waiting from a place at which the piece before it ended (0 for a first piece): the window opens a
--- delay later.
+-- The slot in which piece p waits from a place at which the piece before it ended (0 for a first piece): that of the place at which its
+-- window opens, a delay later.
+abbrev pub slotFrom : List ℕ → ℕ → ℕ → ℕ
+slotFrom t p place = slotOf (place + delayIn t p)
+
+-- The memory with piece p waiting there, beside all that waits already.
 unfoldable pub withWaitingFrom : List ℕ → List ℕ → ℕ → ℕ → List ℕ
-withWaitingFrom t m p place = withWaiting m (slotOf (place + delayIn t p)) p
+withWaitingFrom t m p place = withWaiting m (slotFrom t p place) p

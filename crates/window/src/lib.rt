@@ -11,11 +11,14 @@ use counters::Place;
 use counters::State;
 
 mod begins; // begins.rt: the windows before the first byte
+mod closing; // closing.rt: the window of a piece, lent where it is renewed
 mod ends; // ends.rt: which pieces end in a state
 mod opens; // opens.rt: what opens at a place
 mod waits; // waits.rt: a window waits its turn
 
 pub use begins::begin_windows;
+pub use closing::Window;
+pub use closing::renew;
 pub use ends::pieces_end;
 pub use opens::open_slot;
 pub use waits::slot_of;

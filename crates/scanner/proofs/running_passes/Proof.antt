@@ -5,7 +5,7 @@ use mathlib.Core.Bool.{false}
 use native.Mathlib.Omega.{arith}
 use lib.Dec.{eqb}
 use Rattle.running.specs.Layout.{runningTag}
-use Rattle.scanner.specs.Passing.{tagHeld, tooSmall}
+use Rattle.scanner.specs.Passing.{tagHeld, tagAsked, tooSmall}
 use Rattle.scanner.proofs.Passing.{whole, pass-small, pass-tag, pass-state, pass-place, pass-mark}
 use borrow.Author.Needs.{needs}
 use Rattle.scanner.proofs.running_passes.Statement.{statement}
@@ -52,7 +52,7 @@ unfolding runningTag
 returns-3 c =
     let a = c .before .before .before .before .before .before .before .before .before .before .args in
     let is-large : tooSmall (a .t .now) (a .m .now) ≡ false = sym (c .before .before .before .before .before .before .before .too-small .ensures) ∙ c .before .before .before .before .before .before .if1 .left in
-    let tag : tagHeld (a .m .now) ≡ runningTag = sym (c .before .before .before .before .before .get8 .ensures) ∙ c .before .before .before .before .if2 .left in
+    let tag : tagHeld (a .m .now) ≡ tagAsked = sym (c .before .before .before .before .before .get8 .ensures) ∙ c .before .before .before .before .if2 .left in
     sym (pass-state (a .t .now) (a .m .now) is-large tag (omega arith))
 
 place-of-requires : tie.Need-place-of-requires
@@ -69,7 +69,7 @@ unfolding runningTag
 returns-4 c =
     let a = c .before .before .before .before .before .before .before .before .before .before .before .before .before .args in
     let is-large : tooSmall (a .t .now) (a .m .now) ≡ false = sym (c .before .before .before .before .before .before .before .before .before .before .too-small .ensures) ∙ c .before .before .before .before .before .before .before .before .before .if1 .left in
-    let tag : tagHeld (a .m .now) ≡ runningTag = sym (c .before .before .before .before .before .before .before .before .get8 .ensures) ∙ c .before .before .before .before .before .before .before .if2 .left in
+    let tag : tagHeld (a .m .now) ≡ tagAsked = sym (c .before .before .before .before .before .before .before .before .get8 .ensures) ∙ c .before .before .before .before .before .before .before .if2 .left in
     sym (pass-place (a .t .now) (a .m .now) is-large tag (omega arith) (omega arith))
 
 get8-requires-2 : tie.Need-get8-requires-2
@@ -89,7 +89,7 @@ unfolding runningTag
 returns-5 c =
     let a = c .before .before .before .before .before .before .before .before .before .before .before .before .before .before .before .args in
     let is-large : tooSmall (a .t .now) (a .m .now) ≡ false = sym (c .before .before .before .before .before .before .before .before .before .before .before .before .too-small .ensures) ∙ c .before .before .before .before .before .before .before .before .before .before .before .if1 .left in
-    let tag : tagHeld (a .m .now) ≡ runningTag = sym (c .before .before .before .before .before .before .before .before .before .before .get8 .ensures) ∙ c .before .before .before .before .before .before .before .before .before .if2 .left in
+    let tag : tagHeld (a .m .now) ≡ tagAsked = sym (c .before .before .before .before .before .before .before .before .before .before .get8 .ensures) ∙ c .before .before .before .before .before .before .before .before .before .if2 .left in
     ap₂ eqb (c .before .get82 .ensures) (c .mark .ensures) ∙ sym (pass-mark (a .t .now) (a .m .now) is-large tag (omega arith) (omega arith))
 
 pub running-passes-spec : {M : Type 1} → statement M

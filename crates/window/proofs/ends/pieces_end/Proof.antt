@@ -3,7 +3,7 @@
 use native.Mathlib.Omega.{arith}
 use mathlib.Core.Path.{_∙_}
 use Prim.Native.Nat.{_-_}
-use Rattle.tables.specs.Layout.{roomForPieces}
+use Rattle.window.specs.Ending.{mostLooked}
 use Rattle.window.proofs.Ending.{Walk, whole, walk-start, walk-whole, walk-next, walk-stop, walk-end}
 use Rattle.window.proofs.ends.pieces_end.Statement.{statement}
 use Rattle.window.proofs.ends.pieces_end.Tie as tie
@@ -12,7 +12,7 @@ abbrev Inv-loop : tie.InvT-loop
 Inv-loop t m₀ place marks₀ link₀ looked₀ m marks link looked = Walk t (place .0) m₀ (whole t (place .0) m₀ marks₀ link₀) m marks link looked
 
 abbrev μ-loop : tie.MeasureT-loop
-μ-loop t m₀ place marks₀ link₀ looked₀ m marks link looked = roomForPieces - looked
+μ-loop t m₀ place marks₀ link₀ looked₀ m marks link looked = mostLooked - looked
 
 no-marks-requires : tie.Need-no-marks-requires Inv-loop μ-loop
 no-marks-requires c κs = omega arith

@@ -31,7 +31,7 @@ returns c =
     let span = c .before .before .before .before .before .before .before .before .span in
     let a = c .before .before .before .before .before .before .before .before .before .before .before .args in
     renewed-opens (a .t .now) (a .place .0) (a .m .now) _ (a .piece) (span .result) (closes .result) (read .result) (lent .result)
-    (span .ensures) (closes .ensures) (lent .ensures) (c .before .before .put-window .ensures)
+    (read .ensures) (span .ensures) (closes .ensures) (lent .ensures) (c .before .before .put-window .ensures)
 
 pub open-window-spec : {M : Type 1} → statement M
 open-window-spec =
