@@ -75,7 +75,7 @@ module _ (book : Book) (within : Within book) (before : List ℕ) (marked : Mark
       → Gained n t → infoFor t from n ≡ infoOf book n
   unfolding infoFor
   info-is from n t f l up done =
-      rw (info, deep from f, deep n l) (omega (arith, info-sum book n, up, gain-depth book within n, gain-few book within n l, mark-small book n))
+      omega (arith, info, deep from f, deep n l, info-sum book n, up, gain-depth book within n, gain-few book within n l, mark-small book n)
     where
       info : infoIn t n ≡ endingMark book n
       info = done .kept (infoAt + n) (inr (omega arith)) ∙ marked .infos n l
