@@ -52,8 +52,7 @@ module _ (book : Book) (bytes : All Bytes (keywords (book .phrases))) (room : st
       still i k = h .kept (labelAt + i) (inr (omega arith)) ∙ labels i k
 
       go : (v : Bool) → occurs book n ≡ v
-          → (cond (eqb (labelledBy (c .tables) (stateCount book) n) 0) 0 (c .next) ≡ classOf book n)
-          × (cond (eqb (labelledBy (c .tables) (stateCount book) n) 0) (c .next) (c .next + 1) ≡ length (occurringBelow book (suc n)) + 1)
+          → (classFor (c .tables) (stateCount book) (c .next) n ≡ classOf book n) × (nextClass (c .tables) (stateCount book) (c .next) n ≡ length (occurringBelow book (suc n)) + 1)
       go true e = rw (ne-eqb (labelledBy (c .tables) (stateCount book) n) 0 (seen-some book bytes (c .tables) still n e)) (
         h .next ∙ sym (class-occurs book n e),
         omega (arith, h .next, rw e at (below-grows book n)),

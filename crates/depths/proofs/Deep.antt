@@ -22,7 +22,7 @@ use Rattle.tables.proofs.Fast.{depth-few}
 use Rattle.stepping.specs.Held.{HoldsStates, HoldsFailures}
 use Rattle.stepping.proofs.Right.{back-right}
 use Rattle.stepping.proofs.Kept.{states-kept, failures-kept}
-use Rattle.depths.specs.Depths.{withDepth, withDepths}
+use Rattle.depths.specs.Depths.{depthFor, withDepth, withDepths}
 use Rattle.depths.specs.Right.{Ready}
 use Rattle.depths.proofs.Turns.{depths-further}
 
@@ -59,16 +59,12 @@ module _ (book : Book) (within : Within book) where
         root : (i : ℕ) → i < 1 → depthIn before i ≡ depthOf book i
         root i l = let z : i ≡ 0 = omega arith in rw (z, depth-root) (ready .depths 0 (omega arith))
 
-    deep-further : (n : ℕ) (t : List ℕ) → 0 < n → n < stateCount book → Deep n t → Deep (suc n) (withDepth t n)
-    unfolding withDepth
-    deep-further n t p l done = rw value (record {
-      depths = λ i k. ⊎-elim
-          (λ (e : suc i ≤ n). getD-set-other t (depthAt + n) (depthAt + i) (depthOf book n) 0 (λ z. omega arith) ∙ done .depths i e)
-          (λ (e : suc i ≡ suc n). let z : i ≡ n = omega arith in rw z (getD-set-same t (depthAt + n) (depthOf book n) 0 (omega (arith, done .whole, ready .whole, fits book within .states))))
-          (le-suc-iff .0 k);
-      kept = λ k e. getD-set-other t (depthAt + n) k (depthOf book n) 0 (apart k e) ∙ done .kept k (earlier k e);
-      whole = length-set t (depthAt + n) (depthOf book n) ∙ done .whole;
-    })
+    -- The failure has its depth, and the state is one deeper.
+    depth-is : (n : ℕ) (t : List ℕ) → 0 < n → n < stateCount book → Deep n t → depthFor t n ≡ depthOf book n
+    unfolding depthFor
+    depth-is n t p l done =
+        let smaller : failureIn book n < n = failureIn-smaller book bytes n p l in
+        rw (back, done .depths (failureIn book n) smaller) (omega (arith, depth-more n p l, depth-few book within n l))
       where
         same : (k : ℕ) → 6688 ≤ k → k < 16930 → getD t k 0 ≡ getD before k 0
         same k a b = done .kept k (inr (omega (arith, fits book within .states)))
@@ -77,11 +73,17 @@ module _ (book : Book) (within : Within book) where
         back = back-right book bytes t (states-kept book (fits book within .states) before t same (ready .states)) (stateCount book) (omega arith)
             (failures-kept book (fits book within .states) before t same (stateCount book) (omega arith) (ready .failures)) n p l
 
-        value : (depthIn t (backIn t n) + 1) % 256 ≡ depthOf book n
-        value =
-            let smaller : failureIn book n < n = failureIn-smaller book bytes n p l in
-            rw (back, done .depths (failureIn book n) smaller) (omega (arith, depth-more n p l, depth-few book within n l))
-
+    deep-further : (n : ℕ) (t : List ℕ) → 0 < n → n < stateCount book → Deep n t → Deep (suc n) (withDepth t n)
+    unfolding withDepth
+    deep-further n t p l done = rw (depth-is n t p l done) (record {
+      depths = λ i k. ⊎-elim
+          (λ (e : suc i ≤ n). getD-set-other t (depthAt + n) (depthAt + i) (depthOf book n) 0 (λ z. omega arith) ∙ done .depths i e)
+          (λ (e : suc i ≡ suc n). let z : i ≡ n = omega arith in rw z (getD-set-same t (depthAt + n) (depthOf book n) 0 (omega (arith, done .whole, ready .whole, fits book within .states))))
+          (le-suc-iff .0 k);
+      kept = λ k e. getD-set-other t (depthAt + n) k (depthOf book n) 0 (apart k e) ∙ done .kept k (earlier k e);
+      whole = length-set t (depthAt + n) (depthOf book n) ∙ done .whole;
+    })
+      where
         apart : (k : ℕ) → (k < depthAt) ⊎ (depthAt + suc n ≤ k) → k ≡ depthAt + n → ⊥
         apart k (inl e) z = omega arith
         apart k (inr e) z = omega arith

@@ -29,7 +29,7 @@ use Rattle.stepping.specs.Steps.{childrenEndIn}
 use Rattle.stepping.specs.Held.{HoldsStates}
 use Rattle.stepping.proofs.Right.{children-end-right}
 use Rattle.stepping.proofs.Kept.{states-kept}
-use Rattle.depths.specs.Depths.{withGain, withGains, withGainsOf, withGainsBelow}
+use Rattle.depths.specs.Depths.{infoFor, withGain, withGains, withGainsOf, withGainsBelow}
 
 mark-small : (book : Book) (i : ℕ) → endingMark book i ≤ 128
 unfolding endingMark
@@ -70,10 +70,23 @@ module _ (book : Book) (within : Within book) (before : List ℕ) (marked : Mark
 
   -- ── One state ──
 
+  -- Its own mark stands there, and what is added is its gain.
+  info-is : (from n : ℕ) (t : List ℕ) → from < stateCount book → n < stateCount book → depthOf book from ≡ depth (isState book) (parent (stateAt book n))
+      → Gained n t → infoFor t from n ≡ infoOf book n
+  unfolding infoFor
+  info-is from n t f l up done =
+      omega (arith, info, deep from f, deep n l, info-sum book n, up, gain-depth book within n, gain-few book within n l, mark-small book n)
+    where
+      info : infoIn t n ≡ endingMark book n
+      info = done .kept (infoAt + n) (inr (omega arith)) ∙ marked .infos n l
+
+      deep : (i : ℕ) → i < stateCount book → depthIn t i ≡ depthOf book i
+      deep i k = done .kept (4640 + i) (inr (omega (arith, room))) ∙ marked .depths i k
+
   gained-further : (from n : ℕ) (t : List ℕ) → from < stateCount book → n < stateCount book → depthOf book from ≡ depth (isState book) (parent (stateAt book n))
       → Gained n t → Gained (suc n) (withGain t from n)
   unfolding withGain
-  gained-further from n t f l up done = rw value (record {
+  gained-further from n t f l up done = rw (info-is from n t f l up done) (record {
     infos = λ i k. ⊎-elim
         (λ (e : suc i ≤ n). getD-set-other t (infoAt + n) (infoAt + i) (infoOf book n) 0 (λ z. omega arith) ∙ done .infos i e)
         (λ (e : suc i ≡ suc n). let z : i ≡ n = omega arith in rw z (getD-set-same t (infoAt + n) (infoOf book n) 0 (omega (arith, done .whole, marked .whole, room))))
@@ -82,15 +95,6 @@ module _ (book : Book) (within : Within book) (before : List ℕ) (marked : Mark
     whole = length-set t (infoAt + n) (infoOf book n) ∙ done .whole;
   })
     where
-      info : infoIn t n ≡ endingMark book n
-      info = done .kept (infoAt + n) (inr (omega arith)) ∙ marked .infos n l
-
-      deep : (i : ℕ) → i < stateCount book → depthIn t i ≡ depthOf book i
-      deep i k = done .kept (4640 + i) (inr (omega (arith, room))) ∙ marked .depths i k
-
-      value : (infoIn t n + 256 + 1 + depthIn t from - depthIn t n) % 256 ≡ infoOf book n
-      value = rw (info, deep from f, deep n l) (omega (arith, info-sum book n, up, gain-depth book within n, gain-few book within n l, mark-small book n))
-
       apart : (k : ℕ) → (k < infoAt) ⊎ (infoAt + suc n ≤ k) → k ≡ infoAt + n → ⊥
       apart k (inl e) z = omega arith
       apart k (inr e) z = omega arith

@@ -9,8 +9,12 @@ use Rattle.stepping.specs.Steps.{childrenEndIn}
 -- ── Depths ──
 
 -- A state is one deeper than its failure.
+unfoldable pub depthFor : List ℕ → ℕ → ℕ
+depthFor t i = (depthIn t (backIn t i) + 1) % 256
+
 unfoldable pub withDepth : List ℕ → ℕ → List ℕ
-withDepth t i = set t (depthAt + i) ((depthIn t (backIn t i) + 1) % 256)
+unfolding depthFor
+withDepth t i = set t (depthAt + i) (depthFor t i)
 
 -- The depths of the states from the first one past the root on, up to, without, a number.
 unfoldable pub withDepths : List ℕ → ℕ → List ℕ
@@ -21,8 +25,12 @@ withDepths t (suc (suc i)) = withDepth (withDepths t (suc i)) (suc i)
 -- ── Gains ──
 
 -- To the info of a child is added what is left of one: one and the depth of its parent, less its own depth.
+unfoldable pub infoFor : List ℕ → ℕ → ℕ → ℕ
+infoFor t parent child = (infoIn t child + 256 + 1 + depthIn t parent - depthIn t child) % 256
+
 unfoldable pub withGain : List ℕ → ℕ → ℕ → List ℕ
-withGain t parent child = set t (infoAt + child) ((infoIn t child + 256 + 1 + depthIn t parent - depthIn t child) % 256)
+unfolding infoFor
+withGain t parent child = set t (infoAt + child) (infoFor t parent child)
 
 -- The gains of so many children, from a number on.
 unfoldable pub withGains : List ℕ → ℕ → ℕ → ℕ → List ℕ
