@@ -1,0 +1,4 @@
+pub mod Rights
+pub mod Hits
+pub mod Answers
+pub mod Exact
