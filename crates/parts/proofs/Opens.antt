@@ -53,34 +53,38 @@ module _ (t m out : List ℕ) (offset : ℕ) (end : BeginEnd) (is : end ≡ begi
 
 -- ── The book ──
 
+-- What build answers and leaves decides.
+pub opened-by : (book t m out : List ℕ) (answer : Built) (after : List ℕ) → outcome answer after ≡ buildOf book t
+    → openedAs (saidBy answer) after m out ≡ openOf book t m out
+unfolding openOf
+opened-by book t m out answer after is = ap (λ (o : Outcome). openedAs (saidBy (o .answer)) (o .tables) m out) is
+
+module _ (number offset : ℕ) (t m out : List ℕ) where
+  pub refused-is : (number ≡ 0 → ⊥) → openedAs (said number offset) t m out ≡ refusedWith (said number offset) t m out
+  unfolding openedAs
+  refused-is some = rw (ne-eqb number 0 some)
+
+  pub taken-is : number ≡ 0 → openedAs (said number offset) t m out ≡ begunOf t m out offset
+  unfolding openedAs
+  taken-is none = rw (eq-eqb number 0 none)
+
 module _ (book t m out : List ℕ) (answer : Built) (after : List ℕ) (is : outcome answer after ≡ buildOf book t)
     (number offset : ℕ) (counted : number ≡ saidBy answer .number) (found : offset ≡ saidBy answer .offset) where
   says : said number offset ≡ saidBy answer
   says = ap₂ said counted found
 
   opened-is : openedAs (said number offset) after m out ≡ openOf book t m out
-  unfolding openOf
-  opened-is =
-      ap (λ (s : Said). openedAs s after m out) says
-      ∙ ap (λ (o : Outcome). openedAs (saidBy (o .answer)) (o .tables) m out) is
-
-  refused-is : (number ≡ 0 → ⊥) → openedAs (said number offset) after m out ≡ refusedWith (said number offset) after m out
-  unfolding openedAs
-  refused-is some = rw (ne-eqb number 0 some)
-
-  taken-is : number ≡ 0 → openedAs (said number offset) after m out ≡ begunOf after m out offset
-  unfolding openedAs
-  taken-is none = rw (eq-eqb number 0 none)
+  opened-is = ap (λ (s : Said). openedAs s after m out) says ∙ opened-by book t m out answer after is
 
   pub open-refused : (number ≡ 0 → ⊥) → (written : List ℕ) (r : ℕ) → left written r ≡ withLine out 0 (refusedLine number offset)
       → record { answer = opened.Refused r; tables = after; running = m; out = written } ≡ openOf book t m out
   unfolding refusedWith
   open-refused some written r line =
       ap (λ (l : Left). record { answer = opened.Refused (l .next); tables = after; running = m; out = l .buffer }) line
-      ∙ sym (refused-is some) ∙ opened-is
+      ∙ sym (refused-is number offset after m out some) ∙ opened-is
 
   pub open-taken : number ≡ 0 → (end : OpenEnd) → end ≡ begunOf after m out offset → end ≡ openOf book t m out
-  open-taken none end begins = begins ∙ sym (taken-is none) ∙ opened-is
+  open-taken none end begins = begins ∙ sym (taken-is number offset after m out none) ∙ opened-is
 
 -- ── The line of the book ends inside the buffer ──
 

@@ -5,7 +5,8 @@ ghost use Prim.Native.Nat.{_≤_};
 ghost use lib.ListN.{length};
 ghost use Rattle.listing.specs.Writing.{left};
 ghost use Rattle.parts.specs.Answers.{openedEnd, listedTaken, listedEnd};
-ghost use Rattle.parts.specs.Exact.{begunOf, openOf, listOf, lastOf, tooLongOf};
+ghost use Rattle.parts.specs.Exact.{begunOf};
+ghost use Rattle.parts.specs.Promised.{OpenPromise, ListPromise, LastPromise, TooLongPromise};
 use builder::build;
 use counters::Place;
 use hits::put_hits;
@@ -47,7 +48,7 @@ pub enum Listed {
 
 // Builds the tables of a book, begins the letter, and writes the line of the book.
 pub fn open_book(book: &[u8], tables: &mut [u8], running: &mut [u8], out: &mut [u8]) -> Opened
-    ensures { λ r. ⌜ record { answer = r; tables = now (tables .exit); running = now (running .exit); out = now (out .exit) } ≡ openOf (now (book .entry)) (now (tables .entry)) (now (running .entry)) (now (out .entry)) ⌝ }
+    ensures { λ r. ⌜ OpenPromise (now (book .entry)) (now (tables .entry)) (now (running .entry)) (now (out .entry)) (record { answer = r; tables = now (tables .exit); running = now (running .exit); out = now (out .exit) }) ⌝ }
     ensures { λ r. ⌜ openedEnd r ≤ length (now (out .entry)) ⌝ }
 {
     let built = build(book, tables);
@@ -89,7 +90,7 @@ pub fn list_part(
     room: &mut [u32],
     out: &mut [u8],
 ) -> Listed
-    ensures { λ r. ⌜ record { answer = r; running = now (running .exit); room = now (room .exit); out = now (out .exit) } ≡ listOf (now (tables .entry)) (now (running .entry)) (now (part .entry)) (now (room .entry)) (now (out .entry)) ⌝ }
+    ensures { λ r. ⌜ ListPromise (now (tables .entry)) (now (running .entry)) (now (part .entry)) (now (room .entry)) (now (out .entry)) (record { answer = r; running = now (running .exit); room = now (room .exit); out = now (out .exit) }) ⌝ }
     ensures { λ r. ⌜ (listedTaken r ≤ length (now (part .entry))) × (listedEnd r ≤ length (now (out .entry))) ⌝ }
 {
     let fed = feed(tables, running, part, room);
@@ -113,7 +114,7 @@ pub fn list_part(
 
 // The end line, and `no statement` behind it where there were no hits.
 pub fn last_lines(out: &mut [u8], taken: Place, hits: u64, steps: u64) -> usize
-    ensures { λ r. ⌜ left (now (out .exit)) r ≡ lastOf (now (out .entry)) (taken .0) hits steps ⌝ }
+    ensures { λ r. ⌜ LastPromise (now (out .entry)) (taken .0) hits steps (left (now (out .exit)) r) ⌝ }
     ensures { λ r. ⌜ r ≤ length (now (out .entry)) ⌝ }
 {
     let end = end_line(out, 0, taken, hits, steps);
@@ -125,7 +126,7 @@ pub fn last_lines(out: &mut [u8], taken: Place, hits: u64, steps: u64) -> usize
 
 // The line of a letter that is too long, in place of the last lines: the bytes taken before the part that was refused.
 pub fn too_long_line(out: &mut [u8], taken: Place) -> usize
-    ensures { λ r. ⌜ left (now (out .exit)) r ≡ tooLongOf (now (out .entry)) (taken .0) ⌝ }
+    ensures { λ r. ⌜ TooLongPromise (now (out .entry)) (taken .0) (left (now (out .exit)) r) ⌝ }
     ensures { λ r. ⌜ r ≤ length (now (out .entry)) ⌝ }
 {
     letter_line(out, 0, taken)

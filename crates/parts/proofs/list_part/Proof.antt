@@ -2,6 +2,7 @@
 use native.Mathlib.Omega.{arith}
 use Rattle.scanner.specs.declared.Fed.the-variants as fed
 use Rattle.parts.specs.Exact.{listedAs}
+use Rattle.parts.proofs.Meant.{list-promised}
 use Rattle.parts.proofs.Lists.{fed-told, listed-as, listed-took, list-within}
 use borrow.Author.Needs.{needs}
 use Rattle.parts.proofs.list_part.Statement.{statement}
@@ -43,8 +44,10 @@ same-length-3 c = search needs
 returns : tie.Need-returns
 returns c =
     let a = c .before .before .before .before .before .before .before .before .before .before .before .before .before .before .before .before .before .before .before .before .args in
-    let all = listed-took (a .tables .now) (a .running .now) (a .part .now) (a .room .now) (a .out .now) _ (c .before .before .before .before .before .before .before .before .before .before .before .before .feed .ensures .exact) _ _ _ (c .before .before .before .before .before .before .fed .given .1) _ _ (c .before .before .put-hits .ensures) in
-    (all, list-within (a .tables .now) (a .running .now) (a .part .now) (a .room .now) (a .out .now) _ all)
+    let all = listed-took (a .tables .now) (a .running .now) (a .part .now) (a .room .now) (a .out .now) _ (c .before .before .before .before .before .before .before .before .before .before .before .before .feed .ensures .exact) _ _ _ (c .before .before .before .before .before .before .fed .given .1) _ _ (c .before .before .put-hits .ensures) in (
+      list-promised (a .tables .now) (a .running .now) (a .part .now) (a .room .now) (a .out .now) _ all,
+      list-within (a .tables .now) (a .running .now) (a .part .now) (a .room .now) (a .out .now) _ all,
+    )
 
 same-length-4 : tie.Need-same-length-4
 same-length-4 c = search needs
@@ -56,8 +59,10 @@ returns-2 : tie.Need-returns-2
 unfolding listedAs
 returns-2 c =
     let a = c .before .before .before .before .before .before .before .before .before .before .before .before .before .before .args in
-    let all = listed-as (a .tables .now) (a .running .now) (a .part .now) (a .room .now) (a .out .now) _ (c .before .before .before .before .before .before .feed .ensures .exact) fed.TooLong (c .enum-told .given .1) in
-    (all, list-within (a .tables .now) (a .running .now) (a .part .now) (a .room .now) (a .out .now) _ all)
+    let all = listed-as (a .tables .now) (a .running .now) (a .part .now) (a .room .now) (a .out .now) _ (c .before .before .before .before .before .before .feed .ensures .exact) fed.TooLong (c .enum-told .given .1) in (
+      list-promised (a .tables .now) (a .running .now) (a .part .now) (a .room .now) (a .out .now) _ all,
+      list-within (a .tables .now) (a .running .now) (a .part .now) (a .room .now) (a .out .now) _ all,
+    )
 
 same-length-6 : tie.Need-same-length-6
 same-length-6 c = search needs
@@ -69,8 +74,10 @@ returns-3 : tie.Need-returns-3
 unfolding listedAs
 returns-3 c =
     let a = c .before .before .before .before .before .before .before .before .before .before .before .before .before .before .args in
-    let all = listed-as (a .tables .now) (a .running .now) (a .part .now) (a .room .now) (a .out .now) _ (c .before .before .before .before .before .before .feed .ensures .exact) fed.TooSmall (c .enum-told2 .given .1) in
-    (all, list-within (a .tables .now) (a .running .now) (a .part .now) (a .room .now) (a .out .now) _ all)
+    let all = listed-as (a .tables .now) (a .running .now) (a .part .now) (a .room .now) (a .out .now) _ (c .before .before .before .before .before .before .feed .ensures .exact) fed.TooSmall (c .enum-told2 .given .1) in (
+      list-promised (a .tables .now) (a .running .now) (a .part .now) (a .room .now) (a .out .now) _ all,
+      list-within (a .tables .now) (a .running .now) (a .part .now) (a .room .now) (a .out .now) _ all,
+    )
 
 same-length-8 : tie.Need-same-length-8
 same-length-8 c = search needs
@@ -82,8 +89,10 @@ returns-4 : tie.Need-returns-4
 unfolding listedAs
 returns-4 c =
     let a = c .before .before .before .before .before .before .before .before .before .before .before .before .before .before .args in
-    let all = listed-as (a .tables .now) (a .running .now) (a .part .now) (a .room .now) (a .out .now) _ (c .before .before .before .before .before .before .feed .ensures .exact) fed.NotTables (c .enum-told3 .given .1) in
-    (all, list-within (a .tables .now) (a .running .now) (a .part .now) (a .room .now) (a .out .now) _ all)
+    let all = listed-as (a .tables .now) (a .running .now) (a .part .now) (a .room .now) (a .out .now) _ (c .before .before .before .before .before .before .feed .ensures .exact) fed.NotTables (c .enum-told3 .given .1) in (
+      list-promised (a .tables .now) (a .running .now) (a .part .now) (a .room .now) (a .out .now) _ all,
+      list-within (a .tables .now) (a .running .now) (a .part .now) (a .room .now) (a .out .now) _ all,
+    )
 
 same-length-10 : tie.Need-same-length-10
 same-length-10 c = search needs
@@ -95,8 +104,10 @@ returns-5 : tie.Need-returns-5
 unfolding listedAs
 returns-5 c =
     let a = c .before .before .before .before .before .before .before .before .before .before .before .before .before .before .args in
-    let all = listed-as (a .tables .now) (a .running .now) (a .part .now) (a .room .now) (a .out .now) _ (c .before .before .before .before .before .before .feed .ensures .exact) fed.NoRoom (c .enum-told4 .given .1) in
-    (all, list-within (a .tables .now) (a .running .now) (a .part .now) (a .room .now) (a .out .now) _ all)
+    let all = listed-as (a .tables .now) (a .running .now) (a .part .now) (a .room .now) (a .out .now) _ (c .before .before .before .before .before .before .feed .ensures .exact) fed.NoRoom (c .enum-told4 .given .1) in (
+      list-promised (a .tables .now) (a .running .now) (a .part .now) (a .room .now) (a .out .now) _ all,
+      list-within (a .tables .now) (a .running .now) (a .part .now) (a .room .now) (a .out .now) _ all,
+    )
 
 pub list-part-spec : {M : Type 1} → statement M
 list-part-spec =

@@ -1,6 +1,10 @@
 -- Build's number decides: any but 0 is written as the line of a refused book, and with 0 the letter begins. Assumes nothing.
 use mathlib.Core.Path.{_∙_}
+use Prim.Native.Nat.{ℕ, _<_}
+use native.Mathlib.Omega.{arith}
+use lib.ListN.{getD}
 use Rattle.parts.proofs.Opens.{open-refused, open-taken, open-inside}
+use Rattle.parts.proofs.Readied.{open-promised}
 use borrow.Author.Needs.{needs}
 use Rattle.parts.proofs.open_book.Statement.{statement}
 use Rattle.parts.proofs.open_book.Tie as tie
@@ -36,7 +40,10 @@ returns c =
     let offset = c .before .before .before .before .before .size64 .ensures ∙ c .before .before .before .before .before .before .offset .ensures in
     let exact = c .before .before .before .before .before .before .before .before .before .before .before .build .ensures .exact in
     let all = open-refused (a .book .now) (a .tables .now) (a .running .now) (a .out .now) _ _ exact _ _ number offset (c .before .before .before .before .if1 .taken) _ _ (c .before .before .refused-line .ensures) in
-    (all, open-inside (a .book .now) (a .tables .now) (a .running .now) (a .out .now) _ all)
+    let held : (i : ℕ) → getD (a .running .now) i 0 < 256 = λ i. omega (arith, c .before .before .before .before .before .before .before .before .before .before .before .before .before .before .slice-known2 .given i) in (
+      open-promised (a .book .now) (a .tables .now) (a .running .now) (a .out .now) held (omega arith) _ _ (c .before .before .before .before .before .before .before .before .before .before .before .build .ensures) (λ i. omega (arith, c .before .before .before .before .before .before .before .before .before .slice-known4 .given i)) _ all,
+      open-inside (a .book .now) (a .tables .now) (a .running .now) (a .out .now) _ all,
+    )
 
 begin-letter-requires : tie.Need-begin-letter-requires
 begin-letter-requires c κs = search needs
@@ -57,7 +64,10 @@ returns-2 c =
     let offset = c .before .before .before .before .before .before .before .before .before .size64 .ensures ∙ c .before .before .before .before .before .before .before .before .before .before .offset .ensures in
     let exact = c .before .before .before .before .before .before .before .before .before .before .before .before .before .before .before .build .ensures .exact in
     let all = open-taken (a .book .now) (a .tables .now) (a .running .now) (a .out .now) _ _ exact _ _ number offset (c .before .before .before .before .before .before .before .before .if1 .left) _ (c .before .before .before .before .begin-letter .ensures) in
-    (all, open-inside (a .book .now) (a .tables .now) (a .running .now) (a .out .now) _ all)
+    let held : (i : ℕ) → getD (a .running .now) i 0 < 256 = λ i. omega (arith, c .before .before .before .before .before .before .before .before .before .before .before .before .before .before .before .before .before .before .slice-known2 .given i) in (
+      open-promised (a .book .now) (a .tables .now) (a .running .now) (a .out .now) held (omega arith) _ _ (c .before .before .before .before .before .before .before .before .before .before .before .before .before .before .before .build .ensures) (λ i. omega (arith, c .before .before .before .before .before .before .before .before .before .before .before .before .before .slice-known4 .given i)) _ all,
+      open-inside (a .book .now) (a .tables .now) (a .running .now) (a .out .now) _ all,
+    )
 
 pub open-book-spec : {M : Type 1} → statement M
 open-book-spec =

@@ -1,4 +1,6 @@
 -- The line itself, at the start of the buffer. Assumes nothing.
+use native.Mathlib.Omega.{arith}
+use Rattle.parts.proofs.Texts.{too-long-promised}
 use Rattle.parts.specs.Exact.{tooLongOf}
 use Rattle.parts.proofs.Ends.{too-long-inside, ends-inside}
 use borrow.Author.Needs.{needs}
@@ -15,8 +17,10 @@ returns : tie.Need-returns
 unfolding tooLongOf
 returns c =
     let a = c .before .before .before .before .before .args in
-    let line = c .before .before .letter-line .ensures in
-    (line, ends-inside _ _ _ (tooLongOf (a .out .now) (a .taken .0)) line (too-long-inside (a .out .now) (a .taken .0)))
+    let line = c .before .before .letter-line .ensures in (
+      too-long-promised (a .out .now) (a .taken .0) (omega arith) _ line,
+      ends-inside _ _ _ (tooLongOf (a .out .now) (a .taken .0)) line (too-long-inside (a .out .now) (a .taken .0)),
+    )
 
 pub too-long-line-spec : {M : Type 1} → statement M
 too-long-line-spec = tie.close (tie.spec letter-line-requires same-length returns)
