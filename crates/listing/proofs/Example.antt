@@ -12,7 +12,7 @@ use Rattle.format.specs.Refusals.{numberOf}
 use Rattle.format.specs.Judged.{judged}
 use Rattle.listing.specs.Decimal.{digits}
 use Rattle.listing.specs.Lines.{bookLine, refusedLine, hitLine, endLine, noStatement, letterLine}
-use Rattle.listing.specs.Listing.{bookIn, letterIn, rightsOf, hitLines, lastLines, wholeLetter, cutLetter, letterLines, listing}
+use Rattle.listing.specs.Listing.{bookIn, letterIn, rightsOf, hitLines, lastLines, wholeLetter, cutLetter, letterLines, linesOf, listing}
 
 -- The byte at the end of a line.
 abbrev ends : List ℕ
@@ -31,17 +31,17 @@ inputWith book letter = 0x00 ∷ length book ∷ book ++ bytes letter
 pub example
     : listing (inputWith (bookWith 1 9) "do not ever print")
     ≡ bytes "book 0 at 27 phrases 1" ++ ends ++ bytes "hit 17 phrase 7 right 1" ++ ends ++ bytes "end 17 hits 1 steps 1" ++ ends
-unfolding listing bookIn letterIn letterLines wholeLetter cutLetter hitLines rightsOf lastLines judged numberOf reports steps bookLine refusedLine hitLine endLine noStatement letterLine digits
+unfolding listing linesOf bookIn letterIn letterLines wholeLetter cutLetter hitLines rightsOf lastLines judged numberOf reports steps bookLine refusedLine hitLine endLine noStatement letterLine digits
 example = refl
 
 -- With least 9 and most 1 it writes only this.
 pub example-refused : listing (inputWith (bookWith 9 1) "do not ever print") ≡ bytes "book 5 at 13" ++ ends
-unfolding listing bookIn letterIn letterLines wholeLetter cutLetter hitLines rightsOf lastLines judged numberOf reports steps bookLine refusedLine hitLine endLine noStatement letterLine digits
+unfolding listing linesOf bookIn letterIn letterLines wholeLetter cutLetter hitLines rightsOf lastLines judged numberOf reports steps bookLine refusedLine hitLine endLine noStatement letterLine digits
 example-refused = refl
 
 -- A letter without a hit.
 pub example-no-hit
     : listing (inputWith (bookWith 1 9) "do print")
     ≡ bytes "book 0 at 27 phrases 1" ++ ends ++ bytes "end 8 hits 0 steps 0" ++ ends ++ bytes "no statement" ++ ends
-unfolding listing bookIn letterIn letterLines wholeLetter cutLetter hitLines rightsOf lastLines judged numberOf reports steps bookLine refusedLine hitLine endLine noStatement letterLine digits
+unfolding listing linesOf bookIn letterIn letterLines wholeLetter cutLetter hitLines rightsOf lastLines judged numberOf reports steps bookLine refusedLine hitLine endLine noStatement letterLine digits
 example-no-hit = refl

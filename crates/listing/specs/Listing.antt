@@ -9,7 +9,7 @@ use Rattle.meaning.specs.Books.{Phrase, Book}
 use Rattle.meaning.specs.Reports.{Report, reports}
 use Rattle.meaning.specs.Automaton.{steps}
 use Rattle.format.specs.Refusals.{numberOf}
-use Rattle.format.specs.Judged.{accepted, refused, judged}
+use Rattle.format.specs.Judged.{Judgement, accepted, refused, judged}
 use Rattle.listing.specs.Lines.{bookLine, refusedLine, hitLine, endLine, noStatement, letterLine}
 
 -- ── What is read ──
@@ -91,11 +91,12 @@ unfoldable pub letterLines : Book → List ℕ → List ℕ
 letterLines book letter =
     cond (leb (length letter) largestPlace) (wholeLetter book letter) (cutLetter book (take wholeParts letter))
 
--- The whole listing. Of an accepted book build's number, its offset and the phrases are written, and then the letter's lines; of a refused
--- one only its number and offset.
+-- Of an accepted book build's number, its offset and the phrases are written, and then the letter's lines; of a refused one only its number and
+-- offset.
+unfoldable pub linesOf : Judgement → List ℕ → List ℕ
+linesOf (accepted book offset) letter = bookLine 0 offset (length (book .phrases)) ++ letterLines book letter
+linesOf (refused why offset) letter = refusedLine (numberOf why) offset
+
+-- The whole listing.
 unfoldable pub listing : List ℕ → List ℕ
-listing input =
-    elim (judged (bookIn input)) [
-      | accepted book offset ↦ bookLine 0 offset (length (book .phrases)) ++ letterLines book (letterIn input)
-      | refused why offset ↦ refusedLine (numberOf why) offset
-    ]
+listing input = linesOf (judged (bookIn input)) (letterIn input)

@@ -16,7 +16,18 @@ listedTaken (listed.Took taken hits steps end) = taken
 listedTaken listed.TooLong = 0
 listedTaken listed.NotTaken = 0
 
--- Where its hit lines end.
+-- How many reports they have, and how many failure steps.
+unfoldable pub listedHits : Listed → ℕ
+listedHits (listed.Took taken hits steps end) = hits
+listedHits listed.TooLong = 0
+listedHits listed.NotTaken = 0
+
+unfoldable pub listedSteps : Listed → ℕ
+listedSteps (listed.Took taken hits steps end) = steps
+listedSteps listed.TooLong = 0
+listedSteps listed.NotTaken = 0
+
+-- Where the hit lines end.
 unfoldable pub listedEnd : Listed → ℕ
 listedEnd (listed.Took taken hits steps end) = end
 listedEnd listed.TooLong = 0
