@@ -12,11 +12,11 @@ use lib.Seq.{drop-cons}
 use Rattle.meaning.specs.Books.{Phrase, Book}
 use Rattle.tables.specs.Spots.{noPhrase}
 use Rattle.tables.specs.Layout.{numberOfRank, rightsOfRank}
-use Rattle.tables.specs.Reads.{phraseCountIn, phraseNumberIn, phraseRightsIn}
+use Rattle.tables.specs.Reads.{phraseCountIn, phraseNumberIn}
 use Rattle.tables.proofs.Fields.{phrase-count-laid, phrase-number-laid, phrase-rights-laid}
 use Rattle.scanner.specs.Meant.{TablesOf}
 use Rattle.listing.specs.Listing.{rightsOf}
-use Rattle.parts.specs.Rights.{rightsFrom, rightsIn}
+use Rattle.parts.specs.Rights.{codeFound, rightsFrom, rightsIn}
 
 -- A code is a byte.
 pub code-small : (t : List ℕ) → ((k : ℕ) → getD t k 0 < 256) → (number j n : ℕ) → rightsFrom t number j n < 256
@@ -24,7 +24,7 @@ unfolding rightsFrom
 code-small t bytes number j zero = omega arith
 code-small t bytes number j (suc n) = go (eqb (phraseNumberIn t j) number) (code-small t bytes number (j + 1) n)
   where
-    go : (v : Bool) → rightsFrom t number (j + 1) n < 256 → cond v (phraseRightsIn t j) (rightsFrom t number (j + 1) n) < 256
+    go : (v : Bool) → rightsFrom t number (j + 1) n < 256 → cond v (codeFound t j) (rightsFrom t number (j + 1) n) < 256
     go true later = bytes _
     go false later = later
 

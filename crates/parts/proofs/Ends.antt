@@ -6,7 +6,6 @@ use mathlib.Core.Bool.{Bool, true, false, cond}
 use mathlib.Core.List.{List}
 use Prim.Native.Nat.{ℕ, zero, suc, _+_, _≤_, _<_}
 use native.Mathlib.Omega.{arith}
-use lib.Dec.{eqb}
 use lib.ListN.{length}
 use Rattle.lent.proofs.Bytes.{length-withBytes}
 use Rattle.lent.proofs.Cases.{lt-or-le}
@@ -15,7 +14,7 @@ use Rattle.listing.specs.Writing.{Left, left, withLine}
 use Rattle.listing.proofs.Whole.{line-fits, line-short}
 use Rattle.parts.specs.Rights.{rightsIn}
 use Rattle.parts.specs.Hits.{numberIn, placeIn, hitWritten, hitsWritten}
-use Rattle.parts.specs.Exact.{lastOf, tooLongOf}
+use Rattle.parts.specs.Exact.{withoutHits, lastOf, tooLongOf}
 
 -- A buffer of so many bytes, with an end inside it.
 pub record Inside (n : ℕ) (here : Left) : Type 0 where
@@ -43,7 +42,7 @@ hits-inside t room n i (suc count) here before =
 
 pub last-inside : (out : List ℕ) (taken hits steps : ℕ) → Inside (length out) (lastOf out taken hits steps)
 unfolding lastOf
-last-inside out taken hits steps = go (eqb hits 0)
+last-inside out taken hits steps = go (withoutHits hits)
   where
     line : Left
     line = withLine out 0 (endLine taken hits steps)

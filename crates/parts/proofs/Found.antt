@@ -5,19 +5,19 @@ use mathlib.Core.List.{List}
 use Prim.Native.Nat.{ℕ, zero, suc, _+_, _-_, _≤_, _<_}
 use native.Mathlib.Omega.{arith}
 use borrow.Author.Tests.{eq-eqb, ne-eqb}
-use Rattle.tables.specs.Reads.{phraseCountIn, phraseNumberIn, phraseRightsIn}
-use Rattle.parts.specs.Rights.{rightsFrom, rightsIn}
+use Rattle.tables.specs.Reads.{phraseCountIn, phraseNumberIn}
+use Rattle.parts.specs.Rights.{codeFound, rightsFrom, rightsIn}
 
 module _ (t : List ℕ) (number phrases : ℕ) where
   pub search-start : phrases ≡ phraseCountIn t → rightsFrom t number 0 (phrases - 0) ≡ rightsIn t number
   unfolding rightsIn
   search-start counted = ap (rightsFrom t number 0) (omega (arith, counted))
 
-  found : (j : ℕ) → j < phrases → phraseNumberIn t j ≡ number → rightsFrom t number j (phrases - j) ≡ phraseRightsIn t j
+  found : (j : ℕ) → j < phrases → phraseNumberIn t j ≡ number → rightsFrom t number j (phrases - j) ≡ codeFound t j
   unfolding rightsFrom
   found j inside same = go (phrases - j) refl
     where
-      go : (left : ℕ) → left ≡ phrases - j → rightsFrom t number j left ≡ phraseRightsIn t j
+      go : (left : ℕ) → left ≡ phrases - j → rightsFrom t number j left ≡ codeFound t j
       go zero e = absurd (omega arith)
       go (suc left) e = rw (eq-eqb (phraseNumberIn t j) number same)
 
@@ -40,11 +40,10 @@ module _ (t : List ℕ) (number phrases : ℕ) where
       go zero e = refl
       go (suc left) e = absurd (omega arith)
 
-  -- A turn looks at the phrase of rank j: its number, read as a value, is the wanted one, or it is not.
-  module _ (j rank value wanted : ℕ) (inside : j < phrases) (is : rank ≡ j) (read : value ≡ phraseNumberIn t rank) (asked : wanted ≡ number) where
-    pub turn-found : value ≡ wanted → (code r : ℕ) → code ≡ phraseRightsIn t rank → r ≡ code → r ≡ rightsFrom t number j (phrases - j)
-    turn-found same code r its e =
-        e ∙ its ∙ ap (phraseRightsIn t) is ∙ sym (found j inside (ap (phraseNumberIn t) (sym is) ∙ sym read ∙ same ∙ asked))
+  -- A turn looks at the phrase of rank j: its number is the wanted one, or it is not.
+  module _ (j value : ℕ) (inside : j < phrases) (read : value ≡ phraseNumberIn t j) where
+    pub turn-found : value ≡ number → (code : ℕ) → code ≡ codeFound t j → code ≡ rightsFrom t number j (phrases - j)
+    turn-found same code its = its ∙ sym (found j inside (sym read ∙ same))
 
-    pub turn-next : (value ≡ wanted → ⊥) → rightsFrom t number (j + 1) (phrases - (j + 1)) ≡ rightsFrom t number j (phrases - j)
-    turn-next other = next j inside (λ e. other (read ∙ ap (phraseNumberIn t) is ∙ e ∙ sym asked))
+    pub turn-next : (value ≡ number → ⊥) → rightsFrom t number (j + 1) (phrases - (j + 1)) ≡ rightsFrom t number j (phrases - j)
+    turn-next other = next j inside (λ e. other (read ∙ e))

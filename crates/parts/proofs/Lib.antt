@@ -8,3 +8,4 @@ pub mod Shown
 pub mod Meant
 pub mod Texts
 pub mod Readied
+pub mod Once

@@ -25,7 +25,7 @@ use Rattle.listing.specs.Writing.{Left, left, withLine}
 use Rattle.parts.specs.Rights.{rightsIn}
 use Rattle.parts.specs.Hits.{numberIn, placeIn, hitWritten, hitsWritten}
 use Rattle.parts.specs.Answers.{listedTaken, listedEnd}
-use Rattle.parts.specs.Exact.{ListEnd, tookWith, listedAs, listOf}
+use Rattle.parts.specs.Exact.{ListEnd, tookAnswer, hitsOf, tookWith, listedAs, listOf}
 use Rattle.parts.specs.declared.Listed.the-variants as listed
 use Rattle.parts.proofs.Ends.{hits-inside}
 
@@ -112,11 +112,11 @@ module _ (t m part room out : List ℕ) (end : FeedEnd) (is : end ≡ feedOf t m
       ∙ ap (λ (f : FeedEnd). listedAs (f .answer) t (f .memory) (f .room) out) is
 
   pub listed-took : (taken reports steps : ℕ) → end .answer ≡ fed.Took taken reports steps
-      → (after : List ℕ) (r : ℕ) → left after r ≡ hitsWritten t (end .room) 0 reports (left out 0)
-      → record { answer = listed.Took taken reports steps r; running = end .memory; room = end .room; out = after } ≡ listOf t m part room out
+      → (after : List ℕ) (r : ℕ) → left after r ≡ hitsOf t (end .room) reports out
+      → record { answer = tookAnswer taken reports steps r; running = end .memory; room = end .room; out = after } ≡ listOf t m part room out
   unfolding listedAs tookWith
   listed-took taken reports steps e after r lines =
-      ap (λ (l : Left). record { answer = listed.Took taken reports steps (l .next); running = end .memory; room = end .room; out = l .buffer }) lines
+      ap (λ (l : Left). record { answer = tookAnswer taken reports steps (l .next); running = end .memory; room = end .room; out = l .buffer }) lines
       ∙ listed-as (fed.Took taken reports steps) e
 
 -- ── Bytes taken and lines written are inside what was lent ──
@@ -129,7 +129,7 @@ as-within : (t m part room out : List ℕ) (answer : Fed) → feedOf t m part ro
 unfolding listedAs tookWith listedTaken listedEnd
 as-within t m part room out (fed.Took taken reports steps) e = (
   fed-told t m part room (feedOf t m part room) refl taken reports steps e .offered,
-  hits-inside t (feedOf t m part room .room) (length out) 0 reports (left out 0) (record { long = refl; inside = omega arith }) .inside,
+  hits-inside t (feedOf t m part room .room) (length out) 0 _ (left out 0) (record { long = refl; inside = omega arith }) .inside,
 )
 as-within t m part room out fed.TooLong e = (omega arith, omega arith)
 as-within t m part room out fed.TooSmall e = (omega arith, omega arith)

@@ -24,9 +24,8 @@ use Rattle.listing.specs.Lines.{longestLine}
 use Rattle.listing.specs.Writing.{Left, left}
 use Rattle.listing.specs.Listing.{largestPlace, hitLines}
 use Rattle.listing.proofs.Whole.{first-bytes}
-use Rattle.parts.specs.Hits.{hitsWritten}
 use Rattle.parts.specs.Answers.{listedEnd}
-use Rattle.parts.specs.Exact.{ListEnd, tookWith, listedAs, listOf}
+use Rattle.parts.specs.Exact.{ListEnd, hitsOf, tookWith, listedAs, listOf}
 use Rattle.parts.specs.Meant.{textOf, listedText, ListRefused, ListTook, ListRight}
 use Rattle.parts.specs.Promised.{ListPromise}
 use Rattle.parts.specs.declared.Listed.the-variants as listed
@@ -91,18 +90,18 @@ module _ (book : Book) (x t m part room out : List ℕ) (tables : TablesOf book 
         ∙ byte-written room 0 (inRoom hits) k (omega (arith, length-inRoom hits, hits-few)) (omega (arith, length-inRoom hits))
 
     lines-shown : longestLine * (length room / 2) ≤ length out
-        → hitsWritten t (after .room) 0 (length hits) (left out 0) ≡ left (withBytes out 0 (hitLines book hits)) (0 + length (hitLines book hits))
+        → hitsOf t (after .room) (length hits) out ≡ left (withBytes out 0 (hitLines book hits)) (0 + length (hitLines book hits))
     lines-shown wide = hits-shown book t tables hits
         (reports-show book (tables .limits) x (take count part) (omega (arith, length-take count part)))
         (after .room) out 0 0 in-room (omega (arith, hits-few))
 
     shown-text : longestLine * (length room / 2) ≤ length out
-        → textOf (hitsWritten t (after .room) 0 (length hits) (left out 0)) ≡ hitLines book hits
+        → textOf (hitsOf t (after .room) (length hits) out) ≡ hitLines book hits
     shown-text wide =
-        let lines : Left = hitsWritten t (after .room) 0 (length hits) (left out 0) in
+        let lines : Left = hitsOf t (after .room) (length hits) out in
         let shown : lines ≡ left (withBytes out 0 (hitLines book hits)) (0 + length (hitLines book hits)) = lines-shown wide in
         let ends : lines .next ≡ length (hitLines book hits) = ap (λ (l : Left). l .next) shown ∙ omega arith in
-        let inside : lines .next ≤ length out = hits-inside t (after .room) (length out) 0 (length hits) (left out 0) (record { long = refl; inside = omega arith }) .inside in
+        let inside : lines .next ≤ length out = hits-inside t (after .room) (length out) 0 _ (left out 0) (record { long = refl; inside = omega arith }) .inside in
         first-bytes out (hitLines book hits) (omega (arith, inside, ends)) ends (ap (λ (l : Left). l .buffer) shown)
 
     took-right : ListTook book x part room out count (tookWith t (after .memory) (after .room) out count (length hits) failures)

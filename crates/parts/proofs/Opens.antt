@@ -22,7 +22,7 @@ use Rattle.scanner.proofs.Cases.{begin-small}
 use Rattle.listing.specs.Lines.{bookLine, refusedLine}
 use Rattle.listing.specs.Writing.{Left, left, withLine}
 use Rattle.parts.specs.Answers.{openedEnd}
-use Rattle.parts.specs.Exact.{OpenEnd, readyWith, readyAs, begunOf, refusedWith, openedAs, openOf}
+use Rattle.parts.specs.Exact.{OpenEnd, readyWith, readyAs, begunOf, refusedAnswer, refusedWith, openedAs, openOf}
 use Rattle.parts.specs.declared.Opened.the-variants as opened
 use Rattle.parts.proofs.Ends.{line-inside}
 
@@ -77,10 +77,10 @@ module _ (book t m out : List ℕ) (answer : Built) (after : List ℕ) (is : out
   opened-is = ap (λ (s : Said). openedAs s after m out) says ∙ opened-by book t m out answer after is
 
   pub open-refused : (number ≡ 0 → ⊥) → (written : List ℕ) (r : ℕ) → left written r ≡ withLine out 0 (refusedLine number offset)
-      → record { answer = opened.Refused r; tables = after; running = m; out = written } ≡ openOf book t m out
+      → record { answer = refusedAnswer r; tables = after; running = m; out = written } ≡ openOf book t m out
   unfolding refusedWith
   open-refused some written r line =
-      ap (λ (l : Left). record { answer = opened.Refused (l .next); tables = after; running = m; out = l .buffer }) line
+      ap (λ (l : Left). record { answer = refusedAnswer (l .next); tables = after; running = m; out = l .buffer }) line
       ∙ sym (refused-is number offset after m out some) ∙ opened-is
 
   pub open-taken : number ≡ 0 → (end : OpenEnd) → end ≡ begunOf after m out offset → end ≡ openOf book t m out

@@ -1,21 +1,20 @@
 -- A line that fits is what is passed on, and so are two lines one behind the other.
 -- Assumes nothing.
 use mathlib.Core.Path.{_≡_, refl, sym, ap, ap₂, _∙_}
-use mathlib.Core.Logic.{⊎-elim}
+use mathlib.Core.Bool.{Bool, true, false, cond}
 use mathlib.Core.List.{List, [], _++_, append-nil}
 use Prim.Native.Nat.{ℕ, _+_, _*_, _^_, _≤_, _<_}
 use native.Mathlib.Omega.{arith}
+use lib.Dec.{eqb}
 use lib.ListN.{length, length-append}
-use borrow.Author.Tests.{eq-eqb, ne-eqb}
 use Rattle.lent.specs.Numbers.{withBytes}
 use Rattle.lent.proofs.Bytes.{length-withBytes, with-bytes-split}
-use Rattle.lent.proofs.Cases.{eq-or-ne}
 use Rattle.listing.specs.Lines.{endLine, noStatement, letterLine, longestLine}
 use Rattle.listing.specs.Writing.{Left, left, withLine}
 use Rattle.listing.specs.Listing.{lastLines}
 use Rattle.listing.proofs.Whole.{line-fits, first-bytes}
 use Rattle.listing.proofs.Lengths.{end-line-most, no-statement-most, letter-line-most}
-use Rattle.parts.specs.Exact.{lastOf, tooLongOf}
+use Rattle.parts.specs.Exact.{withoutHits, lastOf, tooLongOf}
 use Rattle.parts.specs.Meant.{textOf, LastRight, TooLongRight}
 use Rattle.parts.specs.Promised.{LastPromise, TooLongPromise}
 
@@ -44,19 +43,23 @@ module _ (out : List ℕ) (taken hits steps : ℕ) (a : taken < 2 ^ 64) (b : hit
   end-fits : length end ≤ longestLine
   end-fits = end-line-most taken hits steps a b c
 
-  without-hits : hits ≡ 0 → textOf (lastOf out taken hits steps) ≡ lastLines taken hits steps
-  unfolding lastOf lastLines
-  without-hits none =
-      rw (eq-eqb hits 0 none)
-      (ap textOf (second-written out end (omega (arith, end-fits)) noStatement (omega (arith, end-fits, no-statement-most)))
-      ∙ line-text out (end ++ noStatement) (omega (arith, end-fits, no-statement-most, length-append end noStatement)))
-
-  with-hits : (hits ≡ 0 → ⊥) → textOf (lastOf out taken hits steps) ≡ lastLines taken hits steps
-  unfolding lastOf lastLines
-  with-hits some = rw (ne-eqb hits 0 some, append-nil) (line-text out end (omega (arith, end-fits)))
+  -- The test is the one of the definition.
+  test-right : withoutHits hits ≡ eqb hits 0
+  unfolding withoutHits
+  test-right = refl
 
   pub last-text : textOf (lastOf out taken hits steps) ≡ lastLines taken hits steps
-  last-text = ⊎-elim (λ none. without-hits none) (λ some. with-hits some) (eq-or-ne hits 0)
+  unfolding lastOf lastLines
+  last-text = rw test-right (go (eqb hits 0))
+    where
+      line : Left
+      line = withLine out 0 end
+
+      go : (none : Bool) → textOf (cond none (withLine (line .buffer) (line .next) noStatement) line) ≡ end ++ cond none noStatement []
+      go true =
+          ap textOf (second-written out end (omega (arith, end-fits)) noStatement (omega (arith, end-fits, no-statement-most)))
+          ∙ line-text out (end ++ noStatement) (omega (arith, end-fits, no-statement-most, length-append end noStatement))
+      go false = rw append-nil (line-text out end (omega (arith, end-fits)))
 
 pub too-long-text : (out : List ℕ) (taken : ℕ) → taken < 2 ^ 64 → longestLine ≤ length out → textOf (tooLongOf out taken) ≡ letterLine taken
 unfolding tooLongOf

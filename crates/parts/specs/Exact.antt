@@ -1,5 +1,5 @@
 -- What each function answers and leaves, for all that it can be lent. Assumes nothing: these are definitions.
-use mathlib.Core.Bool.{cond}
+use mathlib.Core.Bool.{Bool, cond}
 use mathlib.Core.List.{List}
 use Prim.Native.Nat.{ℕ}
 use lib.Dec.{eqb}
@@ -44,11 +44,15 @@ readyAs begun.NotTables t m out offset = record { answer = opened.Refused 0; tab
 unfoldable pub begunOf : List ℕ → List ℕ → List ℕ → ℕ → OpenEnd
 begunOf t m out offset = readyAs (beginOf t m .answer) t (beginOf t m .memory) out offset
 
+-- The answer where the book is refused: where its line ends.
+abbrev pub refusedAnswer : ℕ → Opened
+refusedAnswer end = opened.Refused end
+
 -- The book is refused: its number and its offset are written, and the letter does not begin.
 unfoldable pub refusedWith : Said → List ℕ → List ℕ → List ℕ → OpenEnd
 refusedWith says t m out =
     let line : Left = withLine out 0 (refusedLine (says .number) (says .offset)) in
-    record { answer = opened.Refused (line .next); tables = t; running = m; out = line .buffer }
+    record { answer = refusedAnswer (line .next); tables = t; running = m; out = line .buffer }
 
 -- What build says and leaves leads to.
 unfoldable pub openedAs : Said → List ℕ → List ℕ → List ℕ → OpenEnd
@@ -66,11 +70,19 @@ pub record ListEnd : Type 0 where
   pub room : List ℕ
   pub out : List ℕ
 
+-- The answer where bytes were taken: how many, a hit for each report, the failure steps, and where the hit lines end.
+abbrev pub tookAnswer : ℕ → ℕ → ℕ → ℕ → Listed
+tookAnswer taken reports steps end = listed.Took taken reports steps end
+
+-- The hit lines of so many reports in the room, at the start of the buffer.
+abbrev pub hitsOf : List ℕ → List ℕ → ℕ → List ℕ → Left
+hitsOf t room reports out = hitsWritten t room 0 reports (left out 0)
+
 -- Bytes were taken: the reports are counted, and a line is written for each.
 unfoldable pub tookWith : List ℕ → List ℕ → List ℕ → List ℕ → ℕ → ℕ → ℕ → ListEnd
 tookWith t m room out taken reports steps =
-    let lines : Left = hitsWritten t room 0 reports (left out 0) in
-    record { answer = listed.Took taken reports steps (lines .next); running = m; room = room; out = lines .buffer }
+    let lines : Left = hitsOf t room reports out in
+    record { answer = tookAnswer taken reports steps (lines .next); running = m; room = room; out = lines .buffer }
 
 -- What feed's answer leads to, with the memory and the room that it left.
 unfoldable pub listedAs : Fed → List ℕ → List ℕ → List ℕ → List ℕ → ListEnd
@@ -87,11 +99,15 @@ listOf t m part room out =
 
 -- ── The last lines ──
 
+-- A letter had no hits.
+unfoldable pub withoutHits : ℕ → Bool
+withoutHits hits = eqb hits 0
+
 -- The end line, and behind it, where there were no hits, what follows it then.
 unfoldable pub lastOf : List ℕ → ℕ → ℕ → ℕ → Left
 lastOf out taken hits steps =
     let line : Left = withLine out 0 (endLine taken hits steps) in
-    cond (eqb hits 0) (withLine (line .buffer) (line .next) noStatement) line
+    cond (withoutHits hits) (withLine (line .buffer) (line .next) noStatement) line
 
 unfoldable pub tooLongOf : List ℕ → ℕ → Left
 tooLongOf out taken = withLine out 0 (letterLine taken)

@@ -5,7 +5,7 @@ ghost use Prim.Native.Nat.{_≤_};
 ghost use lib.ListN.{length};
 ghost use Rattle.listing.specs.Writing.{left};
 ghost use Rattle.parts.specs.Answers.{openedEnd, listedTaken, listedEnd};
-ghost use Rattle.parts.specs.Exact.{begunOf};
+ghost use Rattle.parts.specs.Exact.{begunOf, withoutHits};
 ghost use Rattle.parts.specs.Promised.{OpenPromise, ListPromise, LastPromise, TooLongPromise};
 use builder::build;
 use counters::Place;
@@ -112,13 +112,20 @@ pub fn list_part(
     }
 }
 
+// Whether a letter had no hits.
+fn without_hits(hits: u64) -> bool
+    ensures { λ r. ⌜ r ≡ withoutHits hits ⌝ }
+{
+    hits == 0
+}
+
 // The end line, and `no statement` behind it where there were no hits.
 pub fn last_lines(out: &mut [u8], taken: Place, hits: u64, steps: u64) -> usize
     ensures { λ r. ⌜ LastPromise (now (out .entry)) (taken .0) hits steps (left (now (out .exit)) r) ⌝ }
     ensures { λ r. ⌜ r ≤ length (now (out .entry)) ⌝ }
 {
     let end = end_line(out, 0, taken, hits, steps);
-    if hits == 0 {
+    if without_hits(hits) {
         return no_statement(out, end);
     }
     end
