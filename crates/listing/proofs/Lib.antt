@@ -2,3 +2,5 @@ pub mod Digits
 pub mod Filling
 pub mod Lengths
 pub mod Whole
+pub mod Example
+pub mod Offers

@@ -2,3 +2,4 @@ pub mod Decimal
 pub mod Lines
 pub mod Forms
 pub mod Writing
+pub mod Listing

@@ -1,0 +1,9 @@
+// Lists standard input, a book with its length in front and then the letter, on standard output.
+use libc::STDERR_FILENO;
+use libc::STDIN_FILENO;
+use libc::STDOUT_FILENO;
+
+fn main() {
+    let ran = stream::list(STDIN_FILENO, STDOUT_FILENO);
+    stream::say(ran, STDERR_FILENO);
+}

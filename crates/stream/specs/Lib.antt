@@ -1,0 +1,2 @@
+pub mod Letter
+pub mod Reading

@@ -1,0 +1,4 @@
+pub mod Few
+pub mod Turn
+pub mod Turns
+pub mod Listed
