@@ -2,17 +2,16 @@
 -- Assumes nothing.
 use mathlib.Core.Path.{_≡_, refl, sym, ap, ap₂, _∙_}
 use mathlib.Core.Logic.{⊎-elim}
-use mathlib.Core.List.{List, [], _∷_, _++_, append-nil}
-use Prim.Native.Nat.{ℕ, zero, suc, _+_, _-_, _*_, _/_, _%_, _^_, _≤_, _<_}
+use mathlib.Core.List.{List, [], _++_, append-nil}
+use Prim.Native.Nat.{ℕ, zero, suc, _+_, _-_, _*_, _/_, _%_, _≤_, _<_}
 use native.Mathlib.Omega.{arith}
 use lib.ListN.{length, take, drop, length-append, take-append-drop, length-take, length-drop}
-use lib.Seq.{drop-append-seam, take-append-le, length-take-le}
+use lib.Seq.{drop-append-seam, take-append-le, length-take-le, take-add, drop-drop}
 use borrow.Author.Tests.{le-leb, lt-leb}
 use Rattle.lent.proofs.Cases.{lt-or-le}
 use Rattle.meaning.specs.Books.{Book}
 use Rattle.meaning.specs.Reports.{reports}
 use Rattle.meaning.specs.Automaton.{steps}
-use Rattle.meaning.specs.Calls.{reportsAfter}
 use Rattle.meaning.proofs.Cuts.{reports-cut}
 use Rattle.meaning.proofs.Depth.{steps-at-most}
 use Rattle.format.specs.Limits.{mostPhrases}
@@ -20,21 +19,48 @@ use Rattle.format.specs.Judged.{Judgement, accepted, refused, judged}
 use Rattle.scanner.specs.Meant.{TablesOf, RunningOf}
 use Rattle.listing.specs.Lines.{letterLine, longestLine}
 use Rattle.listing.specs.Listing.{bookIn, letterIn, partLength, largestPlace, wholeParts, hitLines, lastLines, wholeLetter, cutLetter, letterLines, linesOf, listing}
-use Rattle.parts.specs.Exact.{OpenEnd, tooLongOf}
-use Rattle.parts.specs.Meant.{textOf, openedText, BookReady, BookRefused, OpensAs}
+use Rattle.parts.specs.Exact.{OpenEnd}
+use Rattle.parts.specs.Meant.{openedText, OpensAs}
 use Rattle.parts.specs.Promised.{OpenPromise}
 use Rattle.parts.specs.declared.Opened.{Opened}
 use Rattle.parts.proofs.Texts.{last-text, too-long-text}
-use Rattle.turns.specs.Turns.{Lent, Totals, noTotals, remaining, lastText, tooLongText, turnsFrom, opening, written, Enough}
+use Rattle.turns.specs.Turns.{Lent, Totals, noTotals, partAt, remaining, lastText, tooLongText, turnsFrom, opening, written, Enough}
 use Rattle.turns.proofs.Few.{reports-few}
 use Rattle.turns.proofs.Turn.{Stands, turn-too-long}
 use Rattle.turns.proofs.Turns.{Offers, turns-right}
 
--- What is offered after the bytes x, of a letter that is x and a rest.
+-- What is offered after the bytes x, of a letter that is x and a rest: the rest up to the next multiple of a part's length.
 rest-offered : (letter x rest : List ℕ) → x ++ rest ≡ letter → remaining letter (length x) ≡ take (partLength - length x % partLength) rest
-unfolding remaining
+unfolding remaining partAt
 rest-offered letter x rest whole =
-    ap (take (partLength - length x % partLength)) (ap (drop (length x)) (sym whole) ∙ drop-append-seam x rest)
+    ap (drop used) parted
+    ∙ ap (λ (k : ℕ). drop k (take used from ++ take (partLength - used) (drop used from))) (sym front)
+    ∙ drop-append-seam (take used from) (take (partLength - used) (drop used from))
+    ∙ ap (take (partLength - used)) behind
+  where
+    used : ℕ
+    used = length x % partLength
+
+    begin : ℕ
+    begin = length x / partLength * partLength
+
+    from : List ℕ
+    from = drop begin letter
+
+    front : length (take used from) ≡ used
+    front = length-take-le used from (omega (arith, length-drop begin letter, ap length whole, length-append x rest))
+
+    length-split : partLength ≡ used + (partLength - used)
+    length-split = omega arith
+
+    length-parted : begin + used ≡ length x
+    length-parted = omega arith
+
+    parted : take partLength from ≡ take used from ++ take (partLength - used) (drop used from)
+    parted = ap (λ (k : ℕ). take k from) length-split ∙ take-add used (partLength - used) from
+
+    behind : drop used from ≡ rest
+    behind = drop-drop used begin letter ∙ ap (λ (k : ℕ). drop k letter) length-parted ∙ ap (drop (length x)) (sym whole) ∙ drop-append-seam x rest
 
 -- Before the first byte.
 at-start : (book : Book) (m : List ℕ) → RunningOf book [] m → Stands book [] m noTotals
@@ -101,6 +127,9 @@ module _ (book : Book) (tables letter : List ℕ) (lent : ℕ → Lent) (last : 
     read-long : length read ≡ wholeParts
     read-long = length-take-le wholeParts letter (omega arith)
 
+    letter-text : (totals : Totals) → totals .taken ≡ wholeParts → tooLongText tables letter lent last totals ≡ letterLine wholeParts
+    letter-text totals taken = rw taken (too-long-text last wholeParts (omega arith) (omega arith))
+
     -- All whole parts are taken, and the next one is refused.
     cut-ends : (more turn : ℕ) (x m : List ℕ) (totals : Totals) → x ++ unread ≡ letter → 1 ≤ more → Stands book x m totals
         → turnsFrom tables letter lent last more turn m totals ≡ letterLine wholeParts
@@ -112,8 +141,7 @@ module _ (book : Book) (tables letter : List ℕ) (lent : ℕ → Lent) (last : 
         let over : largestPlace < length x + length part
         = omega (arith, size, count, length-take (partLength - length x % partLength) unread, length-drop wholeParts letter) in
         turn-too-long book tables letter lent last held room out more turn x m totals stands (omega arith) part refl over
-        ∙ ap (λ (k : ℕ). textOf (tooLongOf last k)) (stands .taken ∙ count)
-        ∙ too-long-text last wholeParts (omega arith) (omega arith)
+        ∙ letter-text totals (stands .taken ∙ count)
 
     cut-offers : (x w : List ℕ) → x ++ (w ++ unread) ≡ letter → 0 < length w → Offers letter x w
     cut-offers x w whole some =
