@@ -92,7 +92,7 @@ module _ (bytes t m out : List ℕ) (held : Bytes m) (long : runningSize ≤ len
       let most : length (refusedLine (numberOf why) offset) ≤ longestLine
       = refused-line-most (numberOf why) offset (omega (arith, number-range why)) (omega (arith, true-of .inside)) in
       let right = refused-opens (numberOf why) offset (λ none. omega (arith, number-range why)) most end (ap (λ (s : Said). openedAs s after m out) says) in
-      record { refused-too = right .0; text = right .1 }
+      record { not-ready = right .0; text = right .1 }
 
   pub open-means : (end : OpenEnd) → end ≡ openOf bytes t m out → OpensAs (judged bytes) out end
   open-means end is =

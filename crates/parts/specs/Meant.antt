@@ -40,7 +40,7 @@ pub record BookReady (book : Book) (offset : ℕ) (out : List ℕ) (end : OpenEn
 
 -- Of a refused book the line has the number and the offset.
 pub record BookRefused (why : Refusal) (offset : ℕ) (out : List ℕ) (end : OpenEnd) : Type 0 where
-  pub refused-too : end .answer ≡ opened.Refused (openedEnd (end .answer))
+  pub not-ready : end .answer ≡ opened.Refused (openedEnd (end .answer))
   pub text : longestLine ≤ length out → openedText end ≡ refusedLine (numberOf why) offset
 
 -- What a judgement of the book leads to.
