@@ -2,5 +2,5 @@ pub mod Digits
 pub mod Filling
 pub mod Lengths
 pub mod Whole
-pub mod Example
+pub mod AllExamples
 pub mod Offers

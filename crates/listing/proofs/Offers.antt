@@ -1,7 +1,7 @@
 -- A letter that does not pass the largest place is taken part by part to its end. Of a longer one every part before the last that begins at or
 -- below that place is whole, so that the part which is refused begins at the greatest multiple of a part's length.
 -- Assumes nothing.
-use mathlib.Core.Path.{_≡_, refl, sym, ap, _∙_}
+use mathlib.Core.Path.{_≡_, ap, _∙_}
 use mathlib.Core.Logic.{⊎-elim}
 use mathlib.Core.Bool.{true, false, cond}
 use mathlib.Core.List.{List}
@@ -12,7 +12,7 @@ use lib.Seq.{take-length}
 use borrow.Author.Tests.{lt-ltb, le-ltb, le-leb, lt-leb}
 use Rattle.lent.proofs.Cases.{lt-or-le}
 use Rattle.meaning.specs.Books.{Book}
-use Rattle.listing.specs.Listing.{partLength, largestPlace, Offered, outcome, offeredFrom, offered, wholeParts, wholeLetter, cutLetter, letterLines}
+use Rattle.listing.specs.Listing.{partLength, largestPlace, outcome, offeredFrom, offered, wholeParts, wholeLetter, cutLetter, letterLines}
 
 module _ (parts taken : ℕ) (rest : List ℕ) where
   abbrev after : ℕ

@@ -3,3 +3,4 @@ pub mod Lines
 pub mod Forms
 pub mod Writing
 pub mod Listing
+pub mod Examples

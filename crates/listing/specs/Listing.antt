@@ -33,6 +33,7 @@ letterIn (high ∷ low ∷ rest) = drop (256 * high + low) rest
 abbrev pub partLength : ℕ
 partLength = 4096
 
+-- The largest place: feed refuses a part that would pass it.
 abbrev pub largestPlace : ℕ
 largestPlace = 4294967295
 

@@ -26,7 +26,6 @@ use Rattle.parts.specs.Rights.{rightsIn}
 use Rattle.parts.specs.Hits.{numberIn, placeIn, hitWritten, hitsWritten}
 use Rattle.parts.specs.Answers.{listedTaken, listedEnd}
 use Rattle.parts.specs.Exact.{ListEnd, tookAnswer, hitsOf, tookWith, listedAs, listOf}
-use Rattle.parts.specs.declared.Listed.the-variants as listed
 use Rattle.parts.proofs.Ends.{hits-inside}
 
 -- ── The hit lines, in rest form ──

@@ -1,8 +1,8 @@
 -- What list_part does on memory of a book follows from what feed does there: its answer is one of three, and its reports stand in the room.
 -- Assumes nothing.
-use mathlib.Core.Path.{_≡_, refl, sym, ap, ap₂, subst, _∙_}
-use mathlib.Core.List.{List, [], _∷_, _++_}
-use Prim.Native.Nat.{ℕ, zero, suc, _+_, _*_, _/_, _≤_, _<_}
+use mathlib.Core.Path.{_≡_, refl, sym, ap, subst, _∙_}
+use mathlib.Core.List.{List, [], _∷_}
+use Prim.Native.Nat.{ℕ, _+_, _*_, _/_, _≤_, _<_}
 use native.Mathlib.Omega.{arith}
 use lib.ListN.{length, take, getD, length-take}
 use borrow.Author.Tests.{le-leb}
@@ -26,12 +26,12 @@ use Rattle.listing.specs.Listing.{largestPlace, hitLines}
 use Rattle.listing.proofs.Whole.{first-bytes}
 use Rattle.parts.specs.Answers.{listedEnd}
 use Rattle.parts.specs.Exact.{ListEnd, hitsOf, tookWith, listedAs, listOf}
-use Rattle.parts.specs.Meant.{textOf, listedText, ListRefused, ListTook, ListRight}
+use Rattle.parts.specs.Meant.{textOf, ListRefused, ListTook, ListRight}
 use Rattle.parts.specs.Promised.{ListPromise}
 use Rattle.parts.specs.declared.Listed.the-variants as listed
 use Rattle.parts.proofs.Ends.{hits-inside}
 use Rattle.parts.proofs.Lists.{listed-as}
-use Rattle.parts.proofs.Shown.{Shows, reports-show, hits-shown}
+use Rattle.parts.proofs.Shown.{reports-show, hits-shown}
 
 -- ── What feed says tells its answer ──
 

@@ -18,7 +18,7 @@ use Rattle.tables.proofs.Fields.{phrase-count-laid}
 use Rattle.running.specs.Layout.{runningSize}
 use Rattle.builder.specs.declared.answers.Built.{Built}
 use Rattle.builder.specs.Answers.{Said, said, saidBy, saidOf}
-use Rattle.builder.specs.Build.{outcome, buildOf, Holds, Judged, BuiltRight}
+use Rattle.builder.specs.Build.{Holds, Judged, BuiltRight}
 use Rattle.scanner.specs.Answers.{begunNumber}
 use Rattle.scanner.specs.Exact.{beginOf}
 use Rattle.scanner.specs.Meant.{TablesOf, BeginDone}
@@ -28,9 +28,9 @@ use Rattle.scanner.proofs.Begins.{begin-means}
 use Rattle.listing.specs.Lines.{bookLine, refusedLine, longestLine}
 use Rattle.listing.proofs.Lengths.{book-line-most, refused-line-most}
 use Rattle.parts.specs.Answers.{openedEnd}
-use Rattle.parts.specs.Exact.{OpenEnd, readyWith, readyAs, begunOf, refusedWith, openedAs, openOf}
+use Rattle.parts.specs.Exact.{OpenEnd, readyWith, readyAs, refusedWith, openedAs, openOf}
 use Rattle.parts.specs.declared.Opened.the-variants as opened
-use Rattle.parts.specs.Meant.{openedText, BookReady, BookRefused, OpensAs}
+use Rattle.parts.specs.Meant.{openedText, BookReady, OpensAs}
 use Rattle.parts.specs.Promised.{OpenPromise}
 use Rattle.parts.proofs.Opens.{begun-as, opened-by, refused-is, taken-is}
 use Rattle.parts.proofs.Texts.{line-text}
@@ -92,7 +92,7 @@ module _ (bytes t m out : List ℕ) (held : Bytes m) (long : runningSize ≤ len
       let most : length (refusedLine (numberOf why) offset) ≤ longestLine
       = refused-line-most (numberOf why) offset (omega (arith, number-range why)) (omega (arith, true-of .inside)) in
       let right = refused-opens (numberOf why) offset (λ none. omega (arith, number-range why)) most end (ap (λ (s : Said). openedAs s after m out) says) in
-      record { refused-too = right .0; text = right .1 }
+      record { not-ready = right .0; text = right .1 }
 
   pub open-means : (end : OpenEnd) → end ≡ openOf bytes t m out → OpensAs (judged bytes) out end
   open-means end is =

@@ -1,10 +1,10 @@
 -- The hit lines of the reports in the room are those of the definition: report after report the room has its number and its place, the tables its
 -- rights code, and the buffer room for the line.
 -- Assumes nothing.
-use mathlib.Core.Path.{_≡_, refl, sym, ap, ap₂, _∙_}
+use mathlib.Core.Path.{_≡_, sym, ap, ap₂, _∙_}
 use mathlib.Core.Bool.{Bool, true, false, cond}
 use mathlib.Core.List.{List, [], _∷_, _++_, map}
-use Prim.Native.Nat.{ℕ, zero, suc, _+_, _*_, _%_, _^_, _≤_, _<_}
+use Prim.Native.Nat.{ℕ, suc, _+_, _*_, _≤_, _<_}
 use native.Mathlib.Omega.{arith}
 use lib.ListN.{length, getD, length-append}
 use Rattle.lent.specs.Numbers.{withBytes}
@@ -18,12 +18,11 @@ use Rattle.format.proofs.Lists.{all-append}
 use Rattle.tracking.specs.Reports.{inRoom}
 use Rattle.scanner.specs.Meant.{TablesOf}
 use Rattle.listing.specs.Lines.{hitLine, longestLine}
-use Rattle.listing.specs.Writing.{Left, left, withLine}
+use Rattle.listing.specs.Writing.{left}
 use Rattle.listing.specs.Listing.{largestPlace, rightsOf, hitLines}
 use Rattle.listing.proofs.Whole.{line-fits}
 use Rattle.listing.proofs.Lengths.{hit-line-most}
-use Rattle.parts.specs.Rights.{rightsIn}
-use Rattle.parts.specs.Hits.{numberIn, placeIn, hitWritten, hitsWritten}
+use Rattle.parts.specs.Hits.{numberIn, hitWritten, hitsWritten}
 use Rattle.parts.proofs.Codes.{codes-right, code-fits}
 
 -- ── The reports of a book fit a line ──

@@ -15,7 +15,7 @@ use Rattle.listing.specs.Listing.{lastLines}
 use Rattle.listing.proofs.Whole.{line-fits, first-bytes}
 use Rattle.listing.proofs.Lengths.{end-line-most, no-statement-most, letter-line-most}
 use Rattle.parts.specs.Exact.{withoutHits, lastOf, tooLongOf}
-use Rattle.parts.specs.Meant.{textOf, LastRight, TooLongRight}
+use Rattle.parts.specs.Meant.{textOf}
 use Rattle.parts.specs.Promised.{LastPromise, TooLongPromise}
 
 module _ (out line : List ℕ) (fits : length line ≤ length out) where

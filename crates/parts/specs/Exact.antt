@@ -5,8 +5,8 @@ use Prim.Native.Nat.{ℕ}
 use lib.Dec.{eqb}
 use Rattle.tables.specs.Reads.{phraseCountIn}
 use Rattle.builder.specs.Answers.{Said, saidBy}
-use Rattle.builder.specs.Build.{Outcome, buildOf}
-use Rattle.scanner.specs.Exact.{BeginEnd, beginOf, FeedEnd, feedOf}
+use Rattle.builder.specs.Build.{buildOf}
+use Rattle.scanner.specs.Exact.{beginOf, FeedEnd, feedOf}
 use Rattle.scanner.specs.declared.Begun.{Begun}
 use Rattle.scanner.specs.declared.Begun.the-variants as begun
 use Rattle.scanner.specs.declared.Fed.{Fed}

@@ -2,7 +2,7 @@
 -- Assumes nothing: these are definitions.
 use mathlib.Core.Path.{_≡_}
 use mathlib.Core.List.{List, [], _++_}
-use Prim.Native.Nat.{ℕ, _+_, _*_, _/_, _≤_, _<_, _^_}
+use Prim.Native.Nat.{ℕ, _+_, _*_, _/_, _≤_, _<_}
 use lib.ListN.{length, take}
 use Rattle.meaning.specs.Books.{Book}
 use Rattle.meaning.specs.Calls.{takes, reportsAfter, stepsAfter}
@@ -40,7 +40,7 @@ pub record BookReady (book : Book) (offset : ℕ) (out : List ℕ) (end : OpenEn
 
 -- Of a refused book the line has the number and the offset.
 pub record BookRefused (why : Refusal) (offset : ℕ) (out : List ℕ) (end : OpenEnd) : Type 0 where
-  pub refused-too : end .answer ≡ opened.Refused (openedEnd (end .answer))
+  pub not-ready : end .answer ≡ opened.Refused (openedEnd (end .answer))
   pub text : longestLine ≤ length out → openedText end ≡ refusedLine (numberOf why) offset
 
 -- What a judgement of the book leads to.

@@ -10,7 +10,6 @@ use Rattle.tables.specs.Layout.{tablesSize}
 use Rattle.running.specs.Layout.{runningSize}
 use Rattle.scanner.specs.Meant.{TablesOf, RunningOf}
 use Rattle.listing.specs.Writing.{Left}
-use Rattle.parts.specs.Answers.{openedEnd, listedTaken, listedEnd}
 use Rattle.parts.specs.Exact.{OpenEnd, openOf, ListEnd, listOf, lastOf, tooLongOf}
 use Rattle.parts.specs.Meant.{OpensAs, ListRight, LastRight, TooLongRight}
 

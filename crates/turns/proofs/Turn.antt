@@ -1,14 +1,14 @@
 -- One turn, after the bytes x of a letter: its lines are those of the bytes that it takes, and the totals and the memory are right for the next.
 -- Assumes nothing.
-use mathlib.Core.Path.{_≡_, refl, sym, ap, ap₂, _∙_}
-use mathlib.Core.List.{List, [], _∷_, _++_}
-use Prim.Native.Nat.{ℕ, zero, suc, _+_, _*_, _/_, _%_, _≤_, _<_}
+use mathlib.Core.Path.{_≡_, refl, ap, _∙_}
+use mathlib.Core.List.{List, _++_}
+use Prim.Native.Nat.{ℕ, suc, _+_, _*_, _/_, _≤_, _<_}
 use native.Mathlib.Omega.{arith}
 use lib.ListN.{length, take, drop, length-append, take-append-drop}
 use lib.Seq.{length-take-le}
 use borrow.Author.Tests.{lt-leb}
 use Rattle.meaning.specs.Books.{Book}
-use Rattle.meaning.specs.Reports.{Report, reports}
+use Rattle.meaning.specs.Reports.{reports}
 use Rattle.meaning.specs.Automaton.{steps}
 use Rattle.meaning.specs.Calls.{reportsAfter, stepsAfter}
 use Rattle.meaning.proofs.Cuts.{reports-cut, steps-cut}
@@ -17,13 +17,13 @@ use Rattle.format.specs.Limits.{mostPhrases}
 use Rattle.scanner.specs.Meant.{TablesOf, RunningOf}
 use Rattle.listing.specs.Lines.{longestLine}
 use Rattle.listing.specs.Listing.{largestPlace, hitLines}
-use Rattle.parts.specs.Answers.{listedTaken, listedHits, listedSteps, listedEnd}
+use Rattle.parts.specs.Answers.{listedTaken, listedHits, listedSteps}
 use Rattle.parts.specs.Exact.{ListEnd, listOf}
-use Rattle.parts.specs.Meant.{listedText, ListTook, ListRight}
+use Rattle.parts.specs.Meant.{listedText, ListTook}
 use Rattle.parts.specs.declared.Listed.{Listed}
 use Rattle.parts.specs.declared.Listed.the-variants as listed
 use Rattle.parts.proofs.Meant.{list-means}
-use Rattle.turns.specs.Turns.{Lent, Totals, added, totalsWith, remaining, onward, callOf, lastText, tooLongText, turnsFrom}
+use Rattle.turns.specs.Turns.{Lent, Totals, added, totalsWith, remaining, onward, tooLongText, turnsFrom}
 use Rattle.turns.proofs.Few.{reports-few}
 
 -- After the bytes x the memory is the book's, and the totals are those of x.
@@ -43,6 +43,11 @@ pub record Turned (book : Book) (x part text : List ℕ) (later : List ℕ → T
   pub totals : Totals
   pub stands : Stands book (x ++ these) memory totals
   pub written : text ≡ hitLines book (reportsAfter book x these) ++ later memory totals
+
+-- Where bytes were taken, the lines of the turn are written, and then what follows.
+took-onward : (taken hits steps end : ℕ) (lines later tooLong : List ℕ) → onward (listed.Took taken hits steps end) lines later tooLong ≡ lines ++ later
+unfolding onward
+took-onward taken hits steps end lines later tooLong = refl
 
 module _ (book : Book) (tables letter : List ℕ) (lent : ℕ → Lent) (last : List ℕ) (held : TablesOf book tables)
     (room : (turn : ℕ) → mostPhrases ≤ length (lent turn .room) / 2) (out : (turn : ℕ) → longestLine * (length (lent turn .room) / 2) ≤ length (lent turn .out)) where
@@ -84,10 +89,10 @@ module _ (book : Book) (tables letter : List ℕ) (lent : ℕ → Lent) (last : 
           }
 
       turn-text : turnsFrom tables letter lent last (suc more) turn m totals ≡ hitLines book (reportsAfter book x y) ++ later end
-      unfolding onward
       turn-text =
           turn-goes
           ∙ ap (λ (a : Listed). onward a (listedText end) (later end) (tooLongText tables letter lent last totals)) (took .says)
+          ∙ took-onward taken (length (reportsAfter book x y)) (stepsAfter book x y) _ (listedText end) (later end) (tooLongText tables letter lent last totals)
           ∙ ap (λ (l : List ℕ). l ++ later end) (took .text (out turn))
 
     pub turn-takes : length x + length part ≤ largestPlace → 0 < length part

@@ -1,7 +1,7 @@
 -- What is written, turn by turn, in the program's order. Assumes nothing: these are definitions.
 use mathlib.Core.Bool.{cond}
 use mathlib.Core.List.{List, [], _++_}
-use Prim.Native.Nat.{ℕ, zero, suc, _+_, _-_, _*_, _/_, _%_, _≤_}
+use Prim.Native.Nat.{ℕ, zero, suc, _+_, _*_, _/_, _%_, _≤_}
 use lib.Dec.{leb}
 use lib.ListN.{length, take, drop}
 use Rattle.format.specs.Limits.{mostPhrases}
@@ -46,10 +46,13 @@ totalsWith totals answer = record {
 
 -- ── The turns ──
 
--- What is offered after so many bytes. The letter comes in parts of 4,096 bytes, the last one shorter, and a part is used up before the next is
--- read: so it is what remains of the part in which the next byte stands.
+-- The letter comes in parts of 4,096 bytes, the last one shorter: this is the part in which the byte stands that follows so many.
+unfoldable pub partAt : List ℕ → ℕ → List ℕ
+partAt letter taken = take partLength (drop (taken / partLength * partLength) letter)
+
+-- A part is used up before the next is read: what is offered after so many bytes is what remains of that part.
 unfoldable pub remaining : List ℕ → ℕ → List ℕ
-remaining letter taken = take (partLength - taken % partLength) (drop taken letter)
+remaining letter taken = drop (taken % partLength) (partAt letter taken)
 
 -- What a turn's answer leads to: the lines of the turn, and the turns after it; or the line of a letter that is too long, and nothing after it. Any
 -- other refusal ends the listing there.
