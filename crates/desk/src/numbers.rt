@@ -50,6 +50,18 @@ pub fn of_begun(answer: Begun) -> u32
     }
 }
 
+// A feed that is done.
+fn took(bytes: usize, hits: usize, steps: u64) -> TsuvrankheFed
+    ensures { λ r. ⌜ fedSaid r ≡ said (Fed.Took bytes hits steps) ⌝ }
+{
+    TsuvrankheFed {
+        number: 0,
+        taken: bytes,
+        reports: hits,
+        steps,
+    }
+}
+
 // A refused feed: nothing taken, nothing reported, no steps.
 fn refused(number: u32) -> TsuvrankheFed
     ensures { λ r. ⌜ fedSaid r ≡ refusal number ⌝ }
@@ -70,12 +82,7 @@ pub fn of_fed(answer: Fed) -> TsuvrankheFed
             taken,
             reports,
             steps,
-        } => TsuvrankheFed {
-            number: 0,
-            taken,
-            reports,
-            steps,
-        },
+        } => took(taken, reports, steps),
         Fed::TooSmall => refused(1),
         Fed::NotTables => refused(12),
         Fed::NoRoom => refused(10),
