@@ -117,3 +117,38 @@ impl fmt::Display for Refused {
 impl Error for Refusal {}
 
 impl Error for Refused {}
+
+#[cfg(test)]
+mod tests {
+    use super::{Refusal, Refused};
+
+    #[test]
+    fn numbers_are_the_papers() {
+        assert_eq!(Refusal::numbered(0), None);
+        for number in 1..=12 {
+            let refusal = Refusal::numbered(number).unwrap();
+            assert_eq!(u32::from(refusal.number()), number);
+        }
+        assert_eq!(Refusal::numbered(13), None);
+        assert_eq!(Refusal::numbered(257), None);
+    }
+
+    #[test]
+    fn no_two_are_said_alike() {
+        let words: std::collections::BTreeSet<_> = Refusal::ALL.map(|r| r.to_string()).into();
+        assert_eq!(words.len(), Refusal::ALL.len());
+    }
+
+    #[test]
+    fn nought_is_no_refusal() {
+        assert_eq!(Refused::unless_done(0, 5), Ok(()));
+        let refused = Refused::unless_done(11, 5).unwrap_err();
+        assert_eq!((refused.refusal, refused.at), (Refusal::TooLong, 5));
+    }
+
+    #[test]
+    #[should_panic(expected = "which the paper does not have")]
+    fn an_unknown_number_is_not_taken_for_anything() {
+        let _ = Refused::unless_done(13, 0);
+    }
+}

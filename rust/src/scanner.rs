@@ -172,3 +172,45 @@ impl fmt::Debug for Scanner {
             .finish_non_exhaustive()
     }
 }
+
+#[cfg(test)]
+mod tests {
+    use super::{reports_in, Report, Scanner};
+    use crate::{calls, Tables};
+
+    /// The header's constants, and the answers' sizes as C has them.
+    #[test]
+    fn sizes_are_those_published() {
+        assert_eq!((Tables::size(), Scanner::size()), (49_152, 10_528));
+        assert_eq!(std::mem::size_of::<calls::Built>(), 16);
+        assert_eq!(std::mem::size_of::<calls::Fed>(), 32);
+    }
+
+    #[test]
+    fn reports_stand_in_pairs() {
+        let room = [7, 17, 8, 18, 9];
+        let reports: Vec<_> = reports_in(&room, 2).collect();
+        let report = |phrase, place| Report { phrase, place };
+        assert_eq!(reports, [report(7, 17), report(8, 18)]);
+        assert_eq!(reports_in(&room, 0).next(), None);
+    }
+
+    #[test]
+    fn scanners_and_tables_go_to_other_threads() {
+        fn goes<T: Send + Sync>() {}
+        goes::<Tables>();
+        goes::<Scanner>();
+    }
+
+    /// What the library answers to memory that this crate never lends it.
+    #[test]
+    fn small_and_zeroed_memory_is_refused() {
+        let (mut tables, mut running) = (vec![0; Tables::size()], vec![0; Scanner::size()]);
+        let short = Scanner::size() - 1;
+        assert_eq!(calls::build(&[], &mut tables[1..]).number, 1);
+        assert_eq!(calls::begin(&tables[1..], &mut running), 1);
+        assert_eq!(calls::begin(&tables, &mut running[..short]), 1);
+        assert_eq!(calls::begin(&tables, &mut running), 12);
+        assert_eq!(calls::feed(&tables, &mut running, b"a", &mut []).number, 12);
+    }
+}
