@@ -9,16 +9,15 @@
  *     begin    once for a letter: running memory for these tables
  *     feed     for each part of the letter, as it comes in: reports
  *
- * With a book in `book`, and a part of the letter in `part`:
+ * With a book in `book`, and a part of the letter in `part` (the whole of such a program is examples/scan.c):
  *
- *     uint8_t tables[TSUVRANKHE_TABLE_SIZE], running[TSUVRANKHE_RUNNING_SIZE];
- *     uint32_t room[2 * TSUVRANKHE_MOST_PHRASES];
- *     struct tsuvrankhe_built built = tsuvrankhe_build(book, book_length, tables, sizeof tables);
- *     if (built.number != TSUVRANKHE_DONE) return refused(built.number, built.offset);
+ *     static uint8_t tables[TSUVRANKHE_TABLE_SIZE], running[TSUVRANKHE_RUNNING_SIZE];
+ *     static uint32_t room[2 * TSUVRANKHE_MOST_PHRASES];
+ *     if (tsuvrankhe_build(book, book_length, tables, sizeof tables).number != TSUVRANKHE_DONE) return 1;
  *     if (tsuvrankhe_begin(tables, sizeof tables, running, sizeof running) != TSUVRANKHE_DONE) return 1;
  *     for (size_t at = 0; at < part_length;) {
- *         struct tsuvrankhe_fed fed = tsuvrankhe_feed(tables, sizeof tables, running, sizeof running, part + at, part_length - at, room, 2 * TSUVRANKHE_MOST_PHRASES);
- *         if (fed.number != TSUVRANKHE_DONE) return refused(fed.number, at);
+ *         struct tsuvrankhe_fed fed = tsuvrankhe_feed(tables, sizeof tables, running, sizeof running, part + at, part_length - at, room, 256);
+ *         if (fed.number != TSUVRANKHE_DONE) return 1;
  *         for (size_t i = 0; i < fed.reports; i++) printf("phrase %u ends at place %u\n", room[2 * i], room[2 * i + 1]);
  *         at += fed.taken;
  *     }
@@ -53,7 +52,7 @@ extern "C" {
 /* No book has more phrases. Room for so many reports, two numbers each, is never refused with 10. */
 #define TSUVRANKHE_MOST_PHRASES 128
 
-/* The numbers of the phrase book's paper. Each is given exactly when its condition holds and no earlier one of the same call does. */
+/* The numbers of the phrase book's paper. A call gives the first whose condition holds, in the order said at the call. */
 enum tsuvrankhe_number {
     TSUVRANKHE_DONE = 0,
     TSUVRANKHE_TOO_SMALL = 1,  /* build, begin, feed: table memory or running memory is below its size */
@@ -67,7 +66,7 @@ enum tsuvrankhe_number {
     TSUVRANKHE_FULL = 9,       /* build: this keyword brings the different prefixes above 2,047 */
     TSUVRANKHE_NO_ROOM = 10,   /* feed: the room is below the number of phrases, even for an empty part */
     TSUVRANKHE_TOO_LONG = 11,  /* feed: the bytes already taken and the whole part offered exceed 4,294,967,295 */
-    TSUVRANKHE_NOT_TABLES = 12 /* begin: the bytes are no tables; feed: no tables, or no running memory begun with them */
+    TSUVRANKHE_NOT_TABLES = 12 /* begin: the tables do not pass the test; feed: the tables or the running memory do not pass it */
 };
 
 struct tsuvrankhe_built {
@@ -82,19 +81,24 @@ struct tsuvrankhe_fed {
     uint64_t steps;  /* the failure steps of the bytes taken */
 };
 
+/* The test of 12: tables that a successful build left always pass, and so does running memory that begin and any later feed left with the same
+ * tables; zeroed memory never does. Bytes from elsewhere that pass, and running memory begun with other tables, still get a defined, ended
+ * answer, which means nothing. */
+
 /* The published sizes, in bytes. Bytes past them are never touched, so more may be lent. */
 size_t tsuvrankhe_table_size(void);
 size_t tsuvrankhe_running_size(void);
 
-/* Builds the tables of a book. Answers 0 to 9. Refused with 1, nothing is touched; refused otherwise, the table memory is zero up to its
- * size, which begin and feed answer with 12. What the memory held before does not matter. The book is not needed afterwards. */
+/* Builds the tables of a book. Answers 0 to 9; looks at 1, and then at record after record, at each at 3 (on the kind alone), 2, 4, 5, 6, 7, 8, 9.
+ * Refused with 1, nothing is touched; refused otherwise, the table memory is zero up to its size, which begin and feed answer with 12.
+ * What the memory held before does not matter. The book is not needed afterwards. */
 struct tsuvrankhe_built tsuvrankhe_build(const uint8_t *book, size_t book_length, uint8_t *tables, size_t tables_length);
 
-/* Begins a letter, at place 0. Answers 0, 1 or 12, in this order of looking: 1, 12. Refused, nothing is touched. What the running memory
+/* Begins a letter, at place 0. Answers 0, 1 or 12; looks at 1, then 12. Refused, nothing is touched. What the running memory
  * held before does not matter, so it serves one letter after the other. */
 uint32_t tsuvrankhe_begin(const uint8_t *tables, size_t tables_length, uint8_t *running, size_t running_length);
 
-/* Goes on with a part of the letter. Answers 0, 1, 10, 11 or 12, in this order of looking: 1, 12, 10, 11. Refused, nothing is touched.
+/* Goes on with a part of the letter. Answers 0, 1, 10, 11 or 12; looks at 1, 12, 10, 11, in this order. Refused, nothing is touched.
  *
  * Bytes are taken one by one while any remain and the free room is at least the number of phrases: where fewer were taken than offered, offer
  * the rest again with free room. A report is two numbers, the phrase number and then the place, which is the number of bytes of
