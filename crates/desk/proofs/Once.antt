@@ -5,7 +5,7 @@ use mathlib.Core.List.{List}
 use Prim.Native.Nat.{ℕ}
 use Rattle.builder.specs.Answers as build
 use Rattle.builder.proofs.Once.{exact-once}
-use Rattle.scanner.specs.Answers.{begunNumber, Said, said}
+use Rattle.scanner.specs.Answers.{begunNumber, said}
 use Rattle.scanner.specs.Exact.{BeginEnd, FeedEnd}
 use Rattle.scanner.proofs.Once.{begin-exact-once, feed-exact-once}
 use Rattle.desk.specs.Answers.{BuiltGiven, BuildAnswers, BegunGiven, BeginAnswers, FedGiven, FeedAnswers}
