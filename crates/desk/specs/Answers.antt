@@ -40,6 +40,7 @@ pub record BegunGiven : Type 0 where
   pub number : ℕ
   pub memory : List ℕ
 
+-- The number is that of an answer that begin promises, and the memory is the promised one.
 pub record BeginAnswers (t m : List ℕ) (given : BegunGiven) : Type 0 where
   pub answer : Begun
   pub promised : BeginPromise t m (record { answer = answer; memory = given .memory })
@@ -60,6 +61,7 @@ pub record FedGiven : Type 0 where
 abbrev pub fedGiven : TsuvrankheFed → List ℕ → List ℕ → FedGiven
 fedGiven answer memory room = record { says = fedSaid answer; memory = memory; room = room }
 
+-- The numbers are those of an answer that feed promises, and memory and room are the promised ones.
 pub record FeedAnswers (t m part room : List ℕ) (given : FedGiven) : Type 0 where
   pub answer : Fed
   pub promised : FeedPromise t m part room (record { answer = answer; memory = given .memory; room = given .room })

@@ -29,6 +29,7 @@ fn wide(x: u8) -> u32
     x as u32
 }
 
+// The number and the offset of what build answers.
 pub fn of_built(answer: Built) -> TsuvrankheBuilt
     ensures { λ r. ⌜ builtSaid r ≡ saidBy answer ⌝ }
 {
@@ -40,6 +41,7 @@ pub fn of_built(answer: Built) -> TsuvrankheBuilt
     }
 }
 
+// The number of what begin answers.
 pub fn of_begun(answer: Begun) -> u32
     ensures { λ r. ⌜ r ≡ begunNumber answer ⌝ }
 {
@@ -74,6 +76,7 @@ fn refused(number: u32) -> TsuvrankheFed
     }
 }
 
+// The number and the counts of what feed answers.
 pub fn of_fed(answer: Fed) -> TsuvrankheFed
     ensures { λ r. ⌜ fedSaid r ≡ said answer ⌝ }
 {
