@@ -1,0 +1,18 @@
+//! A second, independent matcher, and comparisons with the proved scanner on many inputs.
+//!
+//! `matcher`, `automaton` and `judge` are written from the paper's words alone and share no code and no table with the scanner. `shapes` and
+//! `letters` make the inputs, by a fixed seed. The tests stand in `reading` (letters), `refusing` (damaged books), `lending` (sizes and the order of
+//! refusals), `elsewhere` (damaged tables and running memory) and `farthest` (places up to the largest; run on demand).
+mod automaton;
+mod book;
+mod cases;
+mod chance;
+mod desk;
+mod expected;
+mod fenced;
+mod judge;
+mod letters;
+mod library;
+mod matcher;
+mod reading;
+mod shapes;
