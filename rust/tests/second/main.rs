@@ -15,4 +15,5 @@ mod letters;
 mod library;
 mod matcher;
 mod reading;
+mod refusing;
 mod shapes;
