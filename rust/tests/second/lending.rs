@@ -1,0 +1,212 @@
+//! What is lent to the calls: memory below its size, report room below the phrases, letters beyond the largest place, and which refusal comes first.
+use crate::book::{piece, Book, ANYWHERE};
+use crate::chance::Chance;
+use crate::desk::all_are;
+use crate::fenced::Fenced;
+use crate::library::{self, Built, Fed, DONE, NOT_TABLES, NO_ROOM, TOO_LONG, TOO_SMALL};
+use crate::shapes;
+
+const LARGEST_PLACE: usize = 4_294_967_295;
+const UNTOUCHED: u8 = 0x5A;
+const UNTOUCHED_ROOM: u32 = 0x5A5A_5A5A;
+
+/// Two phrases that both end at every byte 0.
+fn zeros_end_phrases() -> Book {
+    Book::of(vec![vec![piece(ANYWHERE, [0])], vec![piece(ANYWHERE, [0])]])
+}
+
+/// Tables of a book, and running memory that was begun with them; each of exactly its size, at a fence.
+fn begun(book: &Book) -> (Fenced<u8>, Fenced<u8>) {
+    let mut tables = Fenced::zeroed(library::table_size());
+    let mut running = Fenced::zeroed(library::running_size());
+    assert_eq!(library::build(&book.written(), &mut tables).number, DONE);
+    assert_eq!(library::begin(&tables, &mut running), DONE);
+    (tables, running)
+}
+
+#[test]
+fn the_published_sizes_keep_to_the_paper() {
+    assert!(library::table_size() <= 49_152, "table memory");
+    assert!(library::running_size() <= 16_384, "running memory");
+    let header = include_str!("../../../include/tsuvrankhe.h");
+    for (name, size) in [
+        ("TABLE", library::table_size()),
+        ("RUNNING", library::running_size()),
+    ] {
+        let line = format!("#define TSUVRANKHE_{name}_SIZE {size}\n");
+        assert!(header.contains(&line), "the header does not say {line}");
+    }
+}
+
+/// 1 comes before anything else, whatever the book, and touches nothing.
+#[test]
+fn memory_below_its_size() {
+    let good = zeros_end_phrases().written();
+    for book in [&good[..], &good[..5], &[], &[0xFF; 300]] {
+        for length in [
+            0,
+            1,
+            8,
+            library::table_size() / 2,
+            library::table_size() - 1,
+        ] {
+            let mut tables = vec![UNTOUCHED; length];
+            let built = library::build(book, &mut tables);
+            assert_eq!(
+                built,
+                Built {
+                    number: TOO_SMALL,
+                    offset: 0
+                }
+            );
+            assert!(all_are(&tables, UNTOUCHED));
+        }
+    }
+    let (tables, running) = begun(&zeros_end_phrases());
+    let zeroed = vec![0; tables.len()];
+    for length in [0, 1, 100, running.len() - 1] {
+        for tables in [&tables[..], &zeroed, &tables[..tables.len() - 1], &[]] {
+            let mut short = running[..length].to_vec();
+            assert_eq!(library::begin(tables, &mut short), TOO_SMALL);
+            let fed = library::feed(tables, &mut short, &[0], &mut []);
+            assert_eq!(fed, Fed::refused(TOO_SMALL), "1 comes before 12 and 10");
+            assert!(short == running[..length]);
+        }
+    }
+    for length in [0, 1, 8, tables.len() - 1] {
+        let mut enough = running.to_vec();
+        assert_eq!(library::begin(&tables[..length], &mut enough), TOO_SMALL);
+        let fed = library::feed(&tables[..length], &mut enough, &[0], &mut []);
+        assert_eq!(fed, Fed::refused(TOO_SMALL));
+        assert!(enough == running[..]);
+    }
+}
+
+/// Begin doesn't care what the running memory held, nor build what the table memory held.
+#[test]
+fn what_memory_held_before() {
+    let chance = &mut Chance::seeded(21);
+    for (name, shape) in shapes::SMALL.iter().chain(&shapes::LARGEST) {
+        let book = shape(chance);
+        let (tables, running) = begun(&book);
+        let mut other_tables = vec![0; tables.len()];
+        let mut other_running = vec![0; running.len()];
+        chance.fill(&mut other_tables);
+        chance.fill(&mut other_running);
+        assert_eq!(
+            library::build(&book.written(), &mut other_tables).number,
+            DONE
+        );
+        assert_eq!(library::begin(&other_tables, &mut other_running), DONE);
+        assert!(other_tables == tables[..], "tables of a book of {name}");
+        assert!(
+            other_running == running[..],
+            "running memory of a book of {name}"
+        );
+    }
+}
+
+/// Zeroed tables and zeroed running memory never pass; refused, begin and feed touch nothing. 12 comes before 10 and 11.
+#[test]
+fn zeroed_memory_never_passes() {
+    let (tables, running) = begun(&zeros_end_phrases());
+    let no_tables = vec![0; tables.len()];
+    let mut anything = vec![UNTOUCHED; running.len()];
+    assert_eq!(library::begin(&no_tables, &mut anything), NOT_TABLES);
+    assert!(all_are(&anything, UNTOUCHED), "begin, refused, wrote");
+    let too_long = Fenced::letter_of_zeros(LARGEST_PLACE + 1);
+    for part in [&[][..], &[0; 9], &too_long] {
+        let mut kept = running.to_vec();
+        let fed = library::feed(&no_tables, &mut kept, part, &mut []);
+        assert_eq!(fed, Fed::refused(NOT_TABLES), "zeroed tables");
+        assert!(kept == running[..]);
+        let mut no_running = vec![0; running.len()];
+        let fed = library::feed(&tables, &mut no_running, part, &mut []);
+        assert_eq!(fed, Fed::refused(NOT_TABLES), "zeroed running memory");
+        assert!(all_are(&no_running, 0));
+    }
+}
+
+/// Room for one report less than there are phrases is refused with 10, even for an empty part, and before 11; an odd last element is no room.
+#[test]
+fn room_below_the_phrases() {
+    let too_long = Fenced::letter_of_zeros(LARGEST_PLACE + 1);
+    for phrases in [1, 2, 3, 127, 128] {
+        let book = Book::of((0..phrases).map(|_| vec![piece(ANYWHERE, "a")]).collect());
+        let (tables, mut running) = begun(&book);
+        let before = running.to_vec();
+        for part in [&b""[..], b"a", &too_long] {
+            for length in [0, 1, 2 * phrases - 2, 2 * phrases - 1] {
+                let mut room = vec![UNTOUCHED_ROOM; length];
+                let fed = library::feed(&tables, &mut running, part, &mut room);
+                assert_eq!(
+                    fed,
+                    Fed::refused(NO_ROOM),
+                    "{phrases} phrases, {length} elements"
+                );
+                assert!(room.iter().all(|&element| element == UNTOUCHED_ROOM));
+                assert!(running[..] == before[..]);
+            }
+        }
+        let mut room = vec![UNTOUCHED_ROOM; 2 * phrases + 1];
+        let fed = library::feed(&tables, &mut running, b"ab", &mut room);
+        let answer = Fed {
+            number: DONE,
+            taken: 1,
+            reports: phrases,
+            steps: 0,
+        };
+        assert_eq!(fed, answer, "the second byte finds no room");
+        assert_eq!(room[2 * phrases], UNTOUCHED_ROOM);
+    }
+}
+
+/// 11 is judged on the whole part offered, before a byte of it is read: from every place reached, one byte more than is left is refused, and exactly
+/// what is left is begun. The letters lent here are zeros that take up no space.
+#[test]
+fn a_part_beyond_the_largest_place() {
+    let (tables, mut running) = begun(&zeros_end_phrases());
+    let letter = Fenced::letter_of_zeros(LARGEST_PLACE + 1);
+    let far_too_long = Fenced::letter_of_zeros(1 << 40);
+    let mut room = Fenced::zeroed(2 * 6);
+    for place in (0..).step_by(3).take(50) {
+        let before = running.to_vec();
+        room.fill(UNTOUCHED_ROOM);
+        for too_long in [
+            &letter[place..],
+            &letter[..LARGEST_PLACE - place + 1],
+            &far_too_long,
+        ] {
+            let fed = library::feed(&tables, &mut running, too_long, &mut room);
+            assert_eq!(fed, Fed::refused(TOO_LONG), "at place {place}");
+            assert!(
+                running[..] == before[..],
+                "feed, refused, changed its memory"
+            );
+            assert!(room.iter().all(|&element| element == UNTOUCHED_ROOM));
+        }
+        let fed = library::feed(
+            &tables,
+            &mut running,
+            &letter[..LARGEST_PLACE - place],
+            &mut room,
+        );
+        // Each byte brings two reports: after three bytes the room is full. From the empty state and from state 0 the next byte 0 goes on
+        // differently: the second one fails once, to the empty state.
+        let steps = if place == 0 { 2 } else { 3 };
+        assert_eq!(
+            fed,
+            Fed {
+                number: DONE,
+                taken: 3,
+                reports: 6,
+                steps
+            }
+        );
+        let next = place as u32 + 1;
+        let due: Vec<u32> = (next..next + 3)
+            .flat_map(|place| [1, place, 2, place])
+            .collect();
+        assert_eq!(room[..], due[..]);
+    }
+}
