@@ -10,6 +10,7 @@ mod chance;
 mod desk;
 mod elsewhere;
 mod expected;
+mod farthest;
 mod fenced;
 mod judge;
 mod lending;
