@@ -186,53 +186,18 @@ impl Desk {
         fed
     }
 
-    /// Refused calls in the middle of a letter: with each of feed's numbers that memory and room decide, nothing is touched.
+    /// Refused calls in the middle of a letter, with each of feed's numbers that memory and room decide.
     fn refusals_change_nothing(&mut self, expected: &Expected) {
         let (tables, running) = (self.tables(), self.running());
-        let no_tables = vec![0; tables.len()];
-        let mut no_running = vec![0; running.len()];
-        let mut kept = running.clone();
-        let mut room = vec![LEFT_ALONE_ROOM; 2 * expected.phrases()];
-        let below = 2 * expected.phrases() - 1;
-        let short = running.len() - 1;
-        let calls = [
-            (
-                TOO_SMALL,
-                library::feed(&tables[1..], &mut kept, b"a", &mut room),
-            ),
-            (
-                TOO_SMALL,
-                library::feed(&tables, &mut kept[..short], b"a", &mut room),
-            ),
-            (
-                NOT_TABLES,
-                library::feed(&no_tables, &mut kept, b"a", &mut room),
-            ),
-            (
-                NOT_TABLES,
-                library::feed(&tables, &mut no_running, b"a", &mut room),
-            ),
-            (
-                NO_ROOM,
-                library::feed(&tables, &mut kept, b"a", &mut room[..below]),
-            ),
-            (
-                NO_ROOM,
-                library::feed(&tables, &mut kept, b"", &mut room[..below]),
-            ),
-        ];
-        for (number, fed) in calls {
-            assert_eq!(fed, Fed::refused(number), "a refused feed");
-        }
-        assert!(
-            kept == running && all_are(&no_running, 0),
-            "a refused feed changed its memory"
-        );
-        assert!(
-            room.iter().all(|&number| number == LEFT_ALONE_ROOM),
-            "a refused feed wrote"
-        );
-        self.seen.refused += calls.len();
+        let zeros = vec![0; tables.len()];
+        let (enough, below) = (2 * expected.phrases(), 2 * expected.phrases() - 1);
+        feed_refuses(TOO_SMALL, &tables[1..], &running, b"a", enough);
+        feed_refuses(TOO_SMALL, &tables, &running[1..], b"a", enough);
+        feed_refuses(NOT_TABLES, &zeros, &running, b"a", enough);
+        feed_refuses(NOT_TABLES, &tables, &zeros[..running.len()], b"a", enough);
+        feed_refuses(NO_ROOM, &tables, &running, b"a", below);
+        feed_refuses(NO_ROOM, &tables, &running, b"", below);
+        self.seen.refused += 6;
     }
 
     fn margins_are_left_alone(&mut self) {
@@ -246,6 +211,19 @@ impl Desk {
             "running memory past the size"
         );
     }
+}
+
+/// A call of feed that must be refused with this number: nothing is taken, reported, counted or changed.
+pub fn feed_refuses(number: u32, tables: &[u8], running: &[u8], part: &[u8], room_length: usize) {
+    let mut kept = running.to_vec();
+    let mut room = vec![LEFT_ALONE_ROOM; room_length];
+    let fed = library::feed(tables, &mut kept, part, &mut room);
+    assert_eq!(fed, Fed::refused(number), "feed, to be refused");
+    assert!(kept == running, "feed, refused, changed its memory");
+    assert!(
+        room.iter().all(|&one| one == LEFT_ALONE_ROOM),
+        "feed, refused, wrote reports"
+    );
 }
 
 pub fn all_are(bytes: &[u8], byte: u8) -> bool {

@@ -1,9 +1,9 @@
 //! What is lent to the calls: memory below its size, report room below the phrases, letters beyond the largest place, and which refusal comes first.
 use crate::book::{piece, Book, ANYWHERE};
 use crate::chance::Chance;
-use crate::desk::all_are;
+use crate::desk::{all_are, feed_refuses};
 use crate::fenced::Fenced;
-use crate::library::{self, Built, Fed, DONE, NOT_TABLES, NO_ROOM, TOO_LONG, TOO_SMALL};
+use crate::library::{self, DONE, NOT_TABLES, NO_ROOM, TOO_LONG, TOO_SMALL};
 use crate::shapes;
 
 const LARGEST_PLACE: usize = 4_294_967_295;
@@ -52,13 +52,7 @@ fn memory_below_its_size() {
         ] {
             let mut tables = vec![UNTOUCHED; length];
             let built = library::build(book, &mut tables);
-            assert_eq!(
-                built,
-                Built {
-                    number: TOO_SMALL,
-                    offset: 0
-                }
-            );
+            assert_eq!((built.number, built.offset), (TOO_SMALL, 0));
             assert!(all_are(&tables, UNTOUCHED));
         }
     }
@@ -68,17 +62,15 @@ fn memory_below_its_size() {
         for tables in [&tables[..], &zeroed, &tables[..tables.len() - 1], &[]] {
             let mut short = running[..length].to_vec();
             assert_eq!(library::begin(tables, &mut short), TOO_SMALL);
-            let fed = library::feed(tables, &mut short, &[0], &mut []);
-            assert_eq!(fed, Fed::refused(TOO_SMALL), "1 comes before 12 and 10");
-            assert!(short == running[..length]);
+            assert!(short == running[..length], "begin, refused, wrote");
+            feed_refuses(TOO_SMALL, tables, &short, &[0], 0);
         }
     }
     for length in [0, 1, 8, tables.len() - 1] {
         let mut enough = running.to_vec();
         assert_eq!(library::begin(&tables[..length], &mut enough), TOO_SMALL);
-        let fed = library::feed(&tables[..length], &mut enough, &[0], &mut []);
-        assert_eq!(fed, Fed::refused(TOO_SMALL));
-        assert!(enough == running[..]);
+        assert!(enough == running[..], "begin, refused, wrote");
+        feed_refuses(TOO_SMALL, &tables[..length], &running, &[0], 0);
     }
 }
 
@@ -116,14 +108,8 @@ fn zeroed_memory_never_passes() {
     assert!(all_are(&anything, UNTOUCHED), "begin, refused, wrote");
     let too_long = Fenced::letter_of_zeros(LARGEST_PLACE + 1);
     for part in [&[][..], &[0; 9], &too_long] {
-        let mut kept = running.to_vec();
-        let fed = library::feed(&no_tables, &mut kept, part, &mut []);
-        assert_eq!(fed, Fed::refused(NOT_TABLES), "zeroed tables");
-        assert!(kept == running[..]);
-        let mut no_running = vec![0; running.len()];
-        let fed = library::feed(&tables, &mut no_running, part, &mut []);
-        assert_eq!(fed, Fed::refused(NOT_TABLES), "zeroed running memory");
-        assert!(all_are(&no_running, 0));
+        feed_refuses(NOT_TABLES, &no_tables, &running, part, 0);
+        feed_refuses(NOT_TABLES, &tables, &no_tables[..running.len()], part, 0);
     }
 }
 
@@ -134,29 +120,15 @@ fn room_below_the_phrases() {
     for phrases in [1, 2, 3, 127, 128] {
         let book = Book::of((0..phrases).map(|_| vec![piece(ANYWHERE, "a")]).collect());
         let (tables, mut running) = begun(&book);
-        let before = running.to_vec();
         for part in [&b""[..], b"a", &too_long] {
             for length in [0, 1, 2 * phrases - 2, 2 * phrases - 1] {
-                let mut room = vec![UNTOUCHED_ROOM; length];
-                let fed = library::feed(&tables, &mut running, part, &mut room);
-                assert_eq!(
-                    fed,
-                    Fed::refused(NO_ROOM),
-                    "{phrases} phrases, {length} elements"
-                );
-                assert!(room.iter().all(|&element| element == UNTOUCHED_ROOM));
-                assert!(running[..] == before[..]);
+                feed_refuses(NO_ROOM, &tables, &running, part, length);
             }
         }
         let mut room = vec![UNTOUCHED_ROOM; 2 * phrases + 1];
         let fed = library::feed(&tables, &mut running, b"ab", &mut room);
-        let answer = Fed {
-            number: DONE,
-            taken: 1,
-            reports: phrases,
-            steps: 0,
-        };
-        assert_eq!(fed, answer, "the second byte finds no room");
+        let answer = (fed.number, fed.taken, fed.reports, fed.steps);
+        assert_eq!(answer, (DONE, 1, phrases, 0), "no room for the second byte");
         assert_eq!(room[2 * phrases], UNTOUCHED_ROOM);
     }
 }
@@ -170,39 +142,14 @@ fn a_part_beyond_the_largest_place() {
     let far_too_long = Fenced::letter_of_zeros(1 << 40);
     let mut room = Fenced::zeroed(2 * 6);
     for place in (0..).step_by(3).take(50) {
-        let before = running.to_vec();
-        room.fill(UNTOUCHED_ROOM);
-        for too_long in [
-            &letter[place..],
-            &letter[..LARGEST_PLACE - place + 1],
-            &far_too_long,
-        ] {
-            let fed = library::feed(&tables, &mut running, too_long, &mut room);
-            assert_eq!(fed, Fed::refused(TOO_LONG), "at place {place}");
-            assert!(
-                running[..] == before[..],
-                "feed, refused, changed its memory"
-            );
-            assert!(room.iter().all(|&element| element == UNTOUCHED_ROOM));
-        }
-        let fed = library::feed(
-            &tables,
-            &mut running,
-            &letter[..LARGEST_PLACE - place],
-            &mut room,
-        );
-        // Each byte brings two reports: after three bytes the room is full. From the empty state and from state 0 the next byte 0 goes on
-        // differently: the second one fails once, to the empty state.
+        let left = LARGEST_PLACE - place;
+        feed_refuses(TOO_LONG, &tables, &running, &letter[..left + 1], 2 * 6);
+        feed_refuses(TOO_LONG, &tables, &running, &far_too_long, 2 * 6);
+        let fed = library::feed(&tables, &mut running, &letter[..left], &mut room);
+        // Each byte brings two reports, so that three bytes fill the room. Each but the letter's first comes upon state 0, which fails once.
         let steps = if place == 0 { 2 } else { 3 };
-        assert_eq!(
-            fed,
-            Fed {
-                number: DONE,
-                taken: 3,
-                reports: 6,
-                steps
-            }
-        );
+        let answer = (fed.number, fed.taken, fed.reports, fed.steps);
+        assert_eq!(answer, (DONE, 3, 6, steps), "at place {place}");
         let next = place as u32 + 1;
         let due: Vec<u32> = (next..next + 3)
             .flat_map(|place| [1, place, 2, place])
