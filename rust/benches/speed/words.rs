@@ -1,4 +1,4 @@
-//! English words for books and letters: a list of common ones, and stems with their endings.
+//! English words for books and letters: common ones, and longer ones with endings.
 
 /// The commonest words, most common first.
 const COMMON: &str = "the of and to in a is that it was i for on you with as have be his they at not this from or by one had but what all were when we \
@@ -10,49 +10,67 @@ const COMMON: &str = "the of and to in a is that it was i for on you with as hav
     paper often until mile feet care second group carry took rain eat room friend began idea fish mountain stop once base hear horse cut \
     sure watch color face wood main girl usual young ready above ever red list though feel talk bird soon body dog song";
 
-/// Stems, from which longer and rarer words are made.
-const STEMS: &str = "print publish permit burn destroy copy quote release archive deposit execut return own sign diar poem draft manuscript seal \
-    request consent express reproduc photograph newspaper editor press law widow daughter secret trust promis wish forbid allow right reserv licens \
-    credit acknowledg source librar account address advanc advis afternoon agree amount answer appear approach arrang arriv articl attempt attend \
-    author avoid balanc bargain bear beauti becom behav believ belong beneath bitter bless borrow breath brother build burden business careful \
-    carriag castl caus ceas certain chamber chang chapter charact charg cheer child choos church circumstanc citizen claim clear climb clos cloth \
-    collect comfort command commenc common compan compar complain complet concern condition conduct confess confid connect consider constant contain \
-    content continu convers correct cottag counsel countr courag cousin cover creatur cross crowd cultivat curious danger dark dealt dear debt deceiv \
-    decid declar deep defend delay delight deliver demand depart depend describ deserv desir despair detail determin develop differ difficult dinner \
-    direct disappear discover discuss distanc distinguish disturb divid doubt dread dress drink duty eager earnest earth educat effect effort employ \
-    encourag endeavour engag enjoy enter entir entreat equal escap establish esteem evening event evid exact examin exampl excellent except exchang \
-    excit excus exercis exist expect expens experienc explain express extend extrem fail faith famil fanc farm fashion favour fellow fever field \
-    fifteen figur finish flatter flower follow foolish foreign forget forgiv form fortun forward found frequent friend fright garden gather general \
-    gentl glad govern gracious gradual grateful great grief ground guard guest habit happen harbour hasten health heart heaven hesitat histor holiday \
-    honest honour hope horror hundred husband ignor imagin immediat import impossib impress improv inclin incom increas indeed independ indulg inform \
-    inhabit injur innocent inquir instanc instruct intend interest introduc invit island journey judg justic kindness kingdom knowledg labour lament \
-    languag laugh leav lectur leisur lesson liberal likel listen liv lodg lonel manner market marri master matter meadow measur medicin meet member \
-    memor mention merchant merci method midnight mind minist miser moment money morning mother motion murmur music natur necess neglect neighbour \
-    notic number obey object oblig observ obtain occasion occup offend offer offic opinion opportun oppos order ordinar origin pain parish parlour \
-    particular partner passag passion patien peac peculiar perceiv perfect perform perhaps person persuad physician pictur piec pitied plain plant \
-    pleas plough poor popul possess possib postpon poverti practic prais prefer prepar presenc preserv presid pretend prevent princip prison privat \
-    probabl proceed produc profess profit progress promot proper propos protect proud prove provid provinc prudent purchas purpos pursu quarrel quarter \
-    quiet rather reason receiv recollect recommend recover refus regard regret reject rejoic relat reliev relig remain remark remember remov render \
-    repair repeat repli report represent resembl resid resist resolv respect restor result retir reveal reward ridicul sacrific satisf scarc scholar \
-    school season secur select sensib sentiment separat serious servant settl sever shadow sharp shelter sickness silenc similar simpl sincer sister \
-    situat societ soldier solemn solicit sorrow speak spirit splendid spring station steadi stranger street strength struggl student stud subject \
-    submit succeed suffer suffic suggest summer supper suppl support suppos surpris surround suspect sweet sympath system teach temper tempest tender \
-    terribl thankful theatr thousand throne thunder tobacco tomorrow torment toward travel treasur treat trembl trifl troubl uncommon understand unhapp \
-    universal unless usual valley valu vanish variet vessel victor villag violent virtu visit voic volum voyag wander warm wealth weather welcom whisper \
-    wholesom wilder willing window winter wisdom withdraw witness wonder worth wound wretch yesterday youth zealous";
+/// Longer words, from which others are made by endings.
+const LONGER: &str = "print publish permit burn destroy copy quote release archive deposit execute return own sign diary poem draft manuscript seal request \
+    consent express reproduce photograph newspaper editor press law widow daughter secret trust promise wish forbid allow right reserve \
+    license credit acknowledge source library account address advance advise afternoon agree amount answer appear approach arrange arrive \
+    article attempt attend author avoid balance bargain bear beauty become behave believe belong beneath bitter bless borrow breath brother \
+    build burden business careful carriage castle cause cease certain chamber change chapter character charge cheer child choose church \
+    circumstance citizen claim clear climb close clothe collect comfort command commence common company compare complain complete concern \
+    condition conduct confess confide connect consider constant contain content continue converse correct cottage counsel country courage \
+    cousin cover creature cross crowd cultivate curious danger dark deal dear debt deceive decide declare deep defend delay delight deliver \
+    demand depart depend describe deserve desire despair detail determine develop differ difficult dinner direct disappear discover discuss \
+    distance distinguish disturb divide doubt dread dress drink duty eager earnest earth educate effect effort employ encourage endeavour \
+    engage enjoy enter entire entreat equal escape establish esteem evening event evidence exact examine example excellent except exchange \
+    excite excuse exercise exist expect expense experience explain extend extreme fail faith family fancy farm fashion favour fellow fever \
+    field fifteen figure finish flatter flower follow foolish foreign forget forgive form fortune forward found frequent friend fright \
+    garden gather general gentle glad govern gracious gradual grateful great grief ground guard guest habit happen harbour hasten health \
+    heart heaven hesitate history holiday honest honour hope horror hundred husband ignore imagine immediate import impossible impress \
+    improve incline income increase indeed independent indulge inform inhabit injure innocent inquire instance instruct intend interest \
+    introduce invite island journey judge justice kindness kingdom knowledge labour lament language laugh leave lecture leisure lesson \
+    liberal likely listen live lodge lonely manner market marry master matter meadow measure medicine meet member memory mention merchant \
+    mercy method midnight mind minister misery moment money morning mother motion murmur music nature necessary neglect neighbour notice \
+    number obey object oblige observe obtain occasion occupy offend offer office opinion opportunity oppose order ordinary origin pain \
+    parish parlour particular partner passage passion patience peace peculiar perceive perfect perform perhaps person persuade physician \
+    picture piece pity plain plant please plough poor popular possess possible postpone poverty practice praise prefer prepare presence \
+    preserve preside pretend prevent principle prison private probable proceed produce profess profit progress promote proper propose \
+    protect proud prove provide province prudent purchase purpose pursue quarrel quarter quiet rather reason receive recollect recommend \
+    recover refuse regard regret reject rejoice relate relieve religion remain remark remember remove render repair repeat reply report \
+    represent resemble reside resist resolve respect restore result retire reveal reward ridicule sacrifice satisfy scarce scholar school \
+    season secure select sensible sentiment separate serious servant settle severe shadow sharp shelter sickness silence similar simple \
+    sincere sister situate society soldier solemn solicit sorrow speak spirit splendid spring station steady stranger street strength \
+    struggle student study subject submit succeed suffer suffice suggest summer supper supply support suppose surprise surround suspect \
+    sweet sympathy system teach temper tempest tender terrible thankful theatre thousand throne thunder tobacco tomorrow torment toward \
+    travel treasure treat tremble trifle trouble uncommon understand unhappy universal unless usual valley value vanish variety vessel \
+    victory village violent virtue visit voice volume voyage wander warm wealth weather welcome whisper wholesome wilderness willing window \
+    winter wisdom withdraw witness wonder worth wound wretch yesterday youth zealous";
 
 const ENDINGS: [&str; 12] = [
-    "ing", "ed", "", "s", "er", "ly", "ation", "ment", "able", "ness", "ful", "ity",
+    "", "s", "ed", "ing", "ly", "er", "ness", "able", "ment", "ation", "ful", "ity",
 ];
+
+/// The word with an ending, spelled well enough: "copies", "reproducing".
+fn with_ending(word: &str, ending: &str) -> String {
+    let vowel_follows = ending.starts_with(&['a', 'e', 'i'][..]);
+    match word.as_bytes() {
+        [.., b'e'] if vowel_follows => word[..word.len() - 1].to_string() + ending,
+        [.., b'a' | b'e' | b'o', b'y'] => word.to_string() + ending,
+        [.., b'y'] if ending == "s" => word[..word.len() - 1].to_string() + "ies",
+        [.., b'y'] if !ending.is_empty() && ending != "ing" => {
+            word[..word.len() - 1].to_string() + "i" + ending
+        }
+        _ => word.to_string() + ending,
+    }
+}
 
 /// All words, the commonest first.
 pub fn all() -> Vec<String> {
     let mut words: Vec<String> = COMMON.split_whitespace().map(String::from).collect();
     for ending in ENDINGS {
         words.extend(
-            STEMS
+            LONGER
                 .split_whitespace()
-                .map(|stem| format!("{stem}{ending}")),
+                .map(|word| with_ending(word, ending)),
         );
     }
     let mut seen = std::collections::HashSet::new();
