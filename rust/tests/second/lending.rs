@@ -2,7 +2,9 @@
 use crate::book::{piece, Book, ANYWHERE};
 use crate::chance::Chance;
 use crate::desk::{all_are, feed_refuses};
+use crate::expected::Expected;
 use crate::fenced::Fenced;
+use crate::letters;
 use crate::library::{self, DONE, NOT_TABLES, NO_ROOM, TOO_LONG, TOO_SMALL};
 use crate::shapes;
 
@@ -71,6 +73,26 @@ fn memory_below_its_size() {
         assert_eq!(library::begin(&tables[..length], &mut enough), TOO_SMALL);
         assert!(enough == running[..], "begin, refused, wrote");
         feed_refuses(TOO_SMALL, &tables[..length], &running, &[0], 0);
+    }
+}
+
+/// Past the published sizes, and in the odd last element of the room, there is a fence here: nothing of it is written, nor even read.
+#[test]
+fn more_memory_than_needed() {
+    let chance = &mut Chance::seeded(22);
+    for (name, shape) in shapes::SMALL.iter().chain(&shapes::LARGEST) {
+        let book = shape(chance);
+        let letter = letters::of_its_phrases(chance, &book, 300, b"ab.");
+        let expected = Expected::of(&book, &letter);
+        let mut tables = Fenced::zeroed(library::table_size());
+        let mut running = Fenced::zeroed(library::running_size());
+        let mut room = Fenced::zeroed(2 * expected.phrases());
+        let bytes = book.written();
+        let (built, begun, fed) =
+            library::with_more_lent(&bytes, &mut tables, &mut running, &letter, &mut room, 9_999);
+        assert_eq!((built.number, begun), (DONE, DONE), "{name}");
+        let answer = expected.feed(0, letter.len(), expected.phrases());
+        assert_eq!(fed, answer.fed, "{name}");
     }
 }
 

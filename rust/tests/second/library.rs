@@ -91,3 +91,36 @@ pub fn feed(tables: &[u8], running: &mut [u8], part: &[u8], room: &mut [u32]) ->
         )
     }
 }
+
+/// Build, begin and feed, each told that so many bytes more are lent than the slices have, and the room one element more. Of these nothing may be
+/// touched: they are past the published sizes, and an odd last element.
+pub fn with_more_lent(
+    book: &[u8],
+    tables: &mut [u8],
+    running: &mut [u8],
+    part: &[u8],
+    room: &mut [u32],
+    more: usize,
+) -> (Built, u32, Fed) {
+    let (book, book_length) = (book.as_ptr(), book.len());
+    let (tables, tables_length) = (tables.as_mut_ptr(), tables.len() + more);
+    let (running, running_length) = (running.as_mut_ptr(), running.len() + more);
+    let (part, part_length) = (part.as_ptr(), part.len());
+    let (room, room_length) = (room.as_mut_ptr(), room.len() + 1);
+    // SAFETY: the slices are of the published sizes and the room's length is even, so that the calls touch nothing past them.
+    unsafe {
+        let built = tsuvrankhe_build(book, book_length, tables, tables_length);
+        let begun = tsuvrankhe_begin(tables, tables_length, running, running_length);
+        let fed = tsuvrankhe_feed(
+            tables,
+            tables_length,
+            running,
+            running_length,
+            part,
+            part_length,
+            room,
+            room_length,
+        );
+        (built, begun, fed)
+    }
+}
