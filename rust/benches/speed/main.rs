@@ -72,8 +72,7 @@ fn header() {
     );
 }
 
-/// The time of building, of judging (a book whose end record is wrong is judged to its end, its table memory cleared, and refused), and of the
-/// textbook's building.
+/// The time of building, of judging, and of the textbook's building.
 fn building_times(cases: &[Case]) {
     println!(
         "\n{:12} {:>7} {:>6} {:>8} {:>6} {:>10} {:>10} {:>12}",
@@ -103,6 +102,7 @@ fn building_times(cases: &[Case]) {
             textbook * 1e6
         );
     }
+    println!("judge: of the same book with a wrong end record, which is judged to its end and refused; it includes clearing the table memory");
 }
 
 /// The contest proper. Answers the lines that are written last.
