@@ -163,7 +163,7 @@ pub fn hostile() -> Book {
         keyword.push(b'a');
     }
     let keywords = shuffled(chance, keywords);
-    let mut phrase = |two_of: &[Vec<u8>]| {
+    let phrase = |two_of: &[Vec<u8>]| {
         let least = *chance.one_of(&[0, 1, 3, 40, 120, 224]);
         let more = *chance.one_of(&[0, 1, 7, 40]);
         let gap = if chance.once_in(16) {
@@ -176,7 +176,7 @@ pub fn hostile() -> Book {
             piece(gap, two_of[1].clone()),
         ]
     };
-    Book::of(keywords.chunks(2).map(|two_of| phrase(two_of)).collect())
+    Book::of(keywords.chunks(2).map(phrase).collect())
 }
 
 /// The longest book, 10,245 bytes: 256 keywords of 32 bytes behind bounded gaps.

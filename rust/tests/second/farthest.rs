@@ -301,6 +301,7 @@ fn the_listing_counts_hits_past_32_bits() {
         tail.extend(&bytes[read.saturating_sub(100)..read]);
         tail.drain(..tail.len().saturating_sub(100));
     }
+    assert!(child.wait().unwrap().success(), "the listing's status");
     let tail = String::from_utf8(tail).unwrap();
     let (hits, steps) = (128 * length, length - 1);
     assert!(

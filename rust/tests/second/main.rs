@@ -1,8 +1,9 @@
 //! A second, independent matcher, and comparisons with the proved scanner on many inputs.
 //!
 //! `matcher`, `automaton` and `judge` are written from the paper's words alone and share no code and no table with the scanner. `shapes` and
-//! `letters` make the inputs, by a fixed seed. The tests stand in `reading` (letters), `refusing` (damaged books), `lending` (sizes and the order of
-//! refusals), `elsewhere` (damaged tables and running memory) and `farthest` (places up to the largest; run on demand).
+//! `letters` make the inputs, by a fixed seed; `cases` has those that are kept. The tests stand in `reading` (letters), `limits` (books at the limits),
+//! `refusing` (damaged books), `lending` (sizes and the order of refusals), `elsewhere` (damaged tables and running memory) and `farthest` (places up
+//! to the largest; run on demand).
 mod automaton;
 mod book;
 mod cases;
@@ -16,6 +17,7 @@ mod judge;
 mod lending;
 mod letters;
 mod library;
+mod limits;
 mod matcher;
 mod reading;
 mod refusing;

@@ -188,15 +188,13 @@ fn one_byte_more_or_less_than_a_bound() {
                 let filler = vec![b'.'; between];
                 let letter = [b"x", &filler[..], keyword].concat();
                 let place = letter.len() as u32;
-                let after_x = (least <= between && between <= most).then(|| (1, place));
-                let from_the_start =
-                    (least <= between + 1 && between + 1 <= most).then(|| (2, place));
-                let due: Vec<_> = after_x.into_iter().chain(from_the_start).collect();
-                assert_eq!(
-                    matcher::reports(&book, &letter),
-                    due,
-                    "{least} to {most}, {between} between"
-                );
+                let admitted = least..=most;
+                // Phrase 1 counts from behind the x, phrase 2 from the letter's start.
+                let after_x = admitted.contains(&between).then_some((1, place));
+                let from_start = admitted.contains(&(between + 1)).then_some((2, place));
+                let due: Vec<_> = after_x.into_iter().chain(from_start).collect();
+                let reports = matcher::reports(&book, &letter);
+                assert_eq!(reports, due, "{least} to {most}, {between} between");
                 compare(desk, chance, &book, &letter);
             }
         }

@@ -1,9 +1,9 @@
 //! Damaged books: truncated, flipped, swapped, with records doubled, lost and moved. Build's answer is compared with the second judge's.
-use crate::book::{from, piece, within, Book, Piece, ANYWHERE};
+use crate::book::{from, piece, within, Book, ANYWHERE};
 use crate::chance::Chance;
 use crate::desk::{Desk, Way};
 use crate::expected::Expected;
-use crate::judge::{judged, Refused};
+use crate::judge::judged;
 use crate::letters;
 use crate::library::{Built, DONE};
 use crate::shapes;
@@ -12,11 +12,11 @@ use std::panic::{self, AssertUnwindSafe};
 
 /// Build's answers so far, counted by number.
 #[derive(Default)]
-struct Answers(BTreeMap<u32, usize>);
+pub struct Answers(BTreeMap<u32, usize>);
 
 /// Builds from these bytes and compares number, offset and memory with the second judge's answer. A book that is accepted reads a letter too, now and
 /// then, so that what was read is compared and not only that it was read.
-fn compare(desk: &mut Desk, chance: &mut Chance, answers: &mut Answers, bytes: &[u8]) {
+pub fn compare(desk: &mut Desk, chance: &mut Chance, answers: &mut Answers, bytes: &[u8]) {
     let judged = judged(bytes);
     let expected = match &judged {
         Ok(_) => Built {
@@ -65,7 +65,7 @@ fn read_a_letter(desk: &mut Desk, chance: &mut Chance, book: &Book) {
 }
 
 /// Every number that the paper gives for books was answered at least once.
-fn all_were_given(answers: &Answers, numbers: &[u32]) {
+pub fn all_were_given(answers: &Answers, numbers: &[u32]) {
     println!("answers by number: {:?}", answers.0);
     for number in numbers {
         assert!(
@@ -227,80 +227,4 @@ fn any_bytes() {
         compare(desk, chance, &mut answers, &bytes);
     }
     all_were_given(&answers, &[2, 3, 4, 5]);
-}
-
-/// One phrase, anywhere, for each of so many keywords.
-fn of_keywords(keywords: impl Iterator<Item = Vec<u8>>) -> Book {
-    Book::of(
-        keywords
-            .map(|keyword| vec![piece(ANYWHERE, keyword)])
-            .collect(),
-    )
-}
-
-/// The paper's "At the limits", and the other limits: what is accepted and what is not, and the offset where the book is refused.
-#[test]
-fn at_the_limits() {
-    let (chance, desk) = (&mut Chance::seeded(17), &mut Desk::new());
-    let mut answers = Answers::default();
-    let gap = |gap| Book::of(vec![vec![piece(gap, "a")]]).written();
-    let same = |count: usize| -> Vec<Piece> { (0..count).map(|_| piece(ANYWHERE, "a")).collect() };
-    let phrases = |count: usize| of_keywords((0..count).map(|_| b"a".to_vec())).written();
-    let prefixes = |last: usize| {
-        let whole = (0..63).map(|first| vec![first; 32]);
-        of_keywords(whole.chain([vec![100; last]])).written()
-    };
-    let pieces = |last: usize| {
-        let mut all: Vec<Vec<Piece>> = (0..32).map(|_| same(8)).collect();
-        all.push(same(last));
-        Book::of(all).written()
-    };
-    let mut long_keyword = gap(ANYWHERE);
-    long_keyword.splice(9..11, [0xA1].into_iter().chain([b'a'; 33]));
-    let mut no_keyword = gap(ANYWHERE);
-    no_keyword.splice(9..11, [0x80]);
-    let cases: Vec<(&str, Vec<u8>, Option<(u32, usize)>)> = vec![
-        ("least 224", gap(from(224)), None),
-        ("least 225", gap(from(225)), Some((4, 6))),
-        ("most 60,000", gap(within(0, 60_000)), None),
-        ("most 60,001", gap(within(0, 60_001)), Some((4, 6))),
-        ("least equal to most", gap(within(224, 224)), None),
-        ("least above most", gap(within(224, 223)), Some((5, 6))),
-        ("least 225 above most 0", gap(within(225, 0)), Some((4, 6))),
-        (
-            "kind A0",
-            Book::of(vec![vec![piece(ANYWHERE, [7; 32])]]).written(),
-            None,
-        ),
-        ("kind A1", long_keyword, Some((3, 9))),
-        ("kind 80", no_keyword, Some((3, 9))),
-        ("no piece", Book::of(vec![vec![]]).written(), Some((3, 6))),
-        ("no phrase", Book::of(vec![]).written(), Some((3, 2))),
-        ("empty", vec![], Some((2, 0))),
-        ("128 phrases", phrases(128), None),
-        ("129 phrases", phrases(129), Some((7, 2 + 128 * 9))),
-        ("8 pieces", Book::of(vec![same(8)]).written(), None),
-        (
-            "9 pieces",
-            Book::of(vec![same(9)]).written(),
-            Some((7, 6 + 8 * 5)),
-        ),
-        ("257 pieces", pieces(1), Some((7, 2 + 32 * 44 + 4))),
-        ("2,047 prefixes", prefixes(31), None),
-        ("2,048 prefixes", prefixes(32), Some((9, 2 + 63 * 40 + 7))),
-        (
-            "a byte after the end",
-            [gap(ANYWHERE), vec![1]].concat(),
-            Some((3, 14)),
-        ),
-    ];
-    for (name, bytes, refused) in cases {
-        let expected = refused.map(|(number, offset)| Refused { number, offset });
-        assert_eq!(judged(&bytes).err(), expected, "{name}");
-        compare(desk, chance, &mut answers, &bytes);
-    }
-    all_were_given(&answers, &[0, 2, 3, 4, 5, 7, 9]);
-    let longest = shapes::LARGEST[2].1(chance).written();
-    assert_eq!(longest.len(), 10_245);
-    compare(desk, chance, &mut answers, &longest);
 }
