@@ -1,6 +1,5 @@
 -- What holds before bytes are taken, and what is kept: the memories have their sizes, the counts of the tables are in range, and so are state and place.
 -- Assumes nothing: these are definitions.
-use mathlib.Core.Path.{_≡_}
 use mathlib.Core.List.{List}
 use Prim.Native.Nat.{ℕ, _+_, _*_, _≤_, _<_}
 use lib.ListN.{length}

@@ -1,6 +1,6 @@
 -- Where the rows of the dense states say what the searched step says, the quick next state is where the searched step leads: from any
 -- other state both look for the child, and go on from the failure. Assumes nothing.
-use mathlib.Core.Path.{_≡_, refl, sym, ap, _∙_}
+use mathlib.Core.Path.{_≡_, sym, ap, _∙_}
 use mathlib.Core.Logic.{_⊎_, inl, inr}
 use mathlib.Core.Bool.{cond}
 use mathlib.Core.List.{List}
@@ -13,7 +13,7 @@ use Rattle.numbering.specs.Walks.{Landed}
 use Rattle.tables.specs.Reads.{backIn}
 use Rattle.tables.proofs.Followed.{back-below}
 use Rattle.stepping.specs.Steps.{childByIn, nextIn}
-use Rattle.stepping.proofs.Turns.{later, next-forward, next-back}
+use Rattle.stepping.proofs.Turns.{next-forward, next-back}
 use Rattle.stepping.proofs.Right.{child-below}
 use Rattle.gliding.specs.Quick.{rowIn, soughtIn, quickIn}
 use Rattle.gliding.proofs.Seeking.{sought-dense, sought-child, sought-back}

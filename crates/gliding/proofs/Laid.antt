@@ -1,10 +1,10 @@
 -- On the tables of a book the cell of a dense state is the next state, so the quick next state is the state after the letter and the byte; and the
 -- steps of a byte are paid for by depths and gains. Assumes nothing.
-use mathlib.Core.Path.{_≡_, refl, sym, ap, ap₂, _∙_}
+use mathlib.Core.Path.{_≡_, sym, ap, ap₂, _∙_}
 use mathlib.Core.Logic.{_⊎_, inl, inr}
-use mathlib.Core.Bool.{Bool, true, false, So, cond, false≢true}
+use mathlib.Core.Bool.{false, So}
 use mathlib.Core.List.{List, [], _∷_, _++_}
-use Prim.Native.Nat.{ℕ, _+_, _-_, _*_, _≤_, _<_}
+use Prim.Native.Nat.{ℕ, _+_, _-_, _≤_, _<_}
 use native.Mathlib.Omega.{arith}
 use borrow.Author.Tests.{lt-ltb, le-ltb}
 use Rattle.lent.proofs.Cases.{lt-or-le}
@@ -22,7 +22,7 @@ use Rattle.numbering.proofs.Steps.{stepBy-inside}
 use Rattle.tables.specs.Regions.{Laid}
 use Rattle.tables.specs.Classes.{occurs}
 use Rattle.tables.specs.Layout.{denseCount, depthOf, gainOf, tablesLayout}
-use Rattle.tables.specs.Reads.{stateCountIn, denseIn, columnIn, cellIn, depthIn, gainIn}
+use Rattle.tables.specs.Reads.{stateCountIn, denseIn, columnIn, depthIn, gainIn}
 use Rattle.tables.proofs.Fields.{state-count-laid}
 use Rattle.tables.proofs.Classes.{occurs-state, absent-empty, dense-range}
 use Rattle.tables.proofs.Fast.{dense-laid, column-inside, cell-laid, depth-laid, gain-laid, gain-step}

@@ -17,23 +17,23 @@ pub fn state_at(index: usize) -> State
 
 // What the row of a dense state has for a byte: its cell. Where no cell of the byte's column can stand it is the number of the
 // states, which no state has.
-fn row(t: &[u8], states: usize, dense: usize, state: usize, byte: u8) -> usize
-    requires { ⌜ (Whole (now t)) × (states ≤ roomForStates) × (dense ≤ states) × (state < dense) ⌝ }
-    ensures { λ r. ⌜ (r ≡ rowIn (now (t .entry)) states dense state byte) × (r < 65536) ⌝ }
+fn row(t: &[u8], states: usize, dense: usize, index: usize, byte: u8) -> usize
+    requires { ⌜ (Whole (now t)) × (states ≤ roomForStates) × (dense ≤ states) × (index < dense) ⌝ }
+    ensures { λ r. ⌜ (r ≡ rowIn (now (t .entry)) states dense index byte) × (r < 65536) ⌝ }
 {
     let column = tables::column(t, byte);
     if SIZE - 2 * dense < column {
         return states;
     }
-    tables::cell(t, column, state_at(state))
+    tables::cell(t, column, state_at(index))
 }
 
 // What is found for a byte from a state on. The state is told by its index, which the loop over bytes keeps in one register.
-pub fn sought(t: &[u8], states: usize, dense: usize, state: usize, byte: u8) -> usize
-    requires { ⌜ (Whole (now t)) × (states ≤ roomForStates) × (1 ≤ dense) × (dense ≤ states) × (state < states) ⌝ }
-    ensures { λ r. ⌜ (r ≡ soughtIn (now (t .entry)) states dense state byte) × (r < 65536) ⌝ }
+pub fn sought(t: &[u8], states: usize, dense: usize, index: usize, byte: u8) -> usize
+    requires { ⌜ (Whole (now t)) × (states ≤ roomForStates) × (1 ≤ dense) × (dense ≤ states) × (index < states) ⌝ }
+    ensures { λ r. ⌜ (r ≡ soughtIn (now (t .entry)) states dense index byte) × (r < 65536) ⌝ }
 {
-    let mut from = state;
+    let mut from = index;
     while dense <= from {
         let child = stepping::child_by(t, states, state_at(from), byte);
         if child.number() != 0 {

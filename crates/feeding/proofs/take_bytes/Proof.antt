@@ -7,7 +7,7 @@ use native.Mathlib.Omega.{arith}
 use lib.ListN.{length}
 use Rattle.tables.specs.Reads.{phraseCountIn}
 use Rattle.gliding.specs.Glide.{glideOf}
-use Rattle.feeding.specs.Taken.{Run, atStart, runOf, progressOn, partTaken}
+use Rattle.feeding.specs.Taken.{atStart, runOf, progressOn}
 use Rattle.feeding.specs.declared.Progress.{Progress}
 use Rattle.feeding.proofs.Turns.{settled, part-full, first-part, Taking, taking-start, taking-end, few-after, taking-full, taking-next, left, left-less}
 use borrow.Author.Needs.{needs}

@@ -1,7 +1,7 @@
 -- Each turn takes two bytes, one after the other, and the returns are where the way does not go on, or no byte is left. The measure is how many
 -- bytes remain.
 -- Assumes nothing.
-use mathlib.Core.Path.{_≡_, refl, sym, ap, _∙_}
+use mathlib.Core.Path.{_≡_, refl, ap, _∙_}
 use mathlib.Core.Bool.{Bool, false}
 use mathlib.Core.List.{List}
 use Prim.Native.Nat.{ℕ, _-_}

@@ -1,8 +1,7 @@
 -- The two returns are the two sides of the test on the column.
 -- Assumes nothing.
-use mathlib.Core.Path.{_≡_, sym, ap, _∙_}
+use mathlib.Core.Path.{sym}
 use native.Mathlib.Omega.{arith}
-use Rattle.tables.specs.Reads.{cellIn}
 use Rattle.gliding.proofs.Seeking.{row-none, row-cell}
 use borrow.Author.Needs.{needs}
 use Rattle.gliding.proofs.quick.row.Statement.{statement}
@@ -20,7 +19,7 @@ sub-if1 c = search needs
 returns : tie.Need-returns
 returns c =
     let a = c .before .before .before .args in
-    (sym (row-none (a .t .now) (a .states) (a .dense) (a .byte) (omega arith) (a .state) (omega arith)), omega arith)
+    (sym (row-none (a .t .now) (a .states) (a .dense) (a .byte) (omega arith) (a .index) (omega arith)), omega arith)
 
 state-at-requires : tie.Need-state-at-requires
 state-at-requires c κs = search needs
@@ -31,7 +30,7 @@ cell-requires c κs = search needs
 returns-2 : tie.Need-returns-2
 returns-2 c =
     let a = c .before .before .before .before .before .args in
-    (cc (row-cell (a .t .now) (a .states) (a .dense) (a .byte) (omega arith) (a .state) (omega arith)), omega arith)
+    (cc (row-cell (a .t .now) (a .states) (a .dense) (a .byte) (omega arith) (a .index) (omega arith)), omega arith)
 
 pub row-spec : {M : Type 1} → statement M
 row-spec =

@@ -1,6 +1,6 @@
 -- What is found from the failure on is what is found from the whole, and a failure has a smaller number.
 -- Assumes nothing.
-use mathlib.Core.Path.{_≡_, refl, sym, ap, _∙_}
+use mathlib.Core.Path.{_≡_, refl, sym, _∙_}
 use Prim.Native.Nat.{_<_}
 use borrow.Author.Needs.{needs}
 use native.Mathlib.Omega.{arith}
@@ -10,10 +10,10 @@ use Rattle.gliding.proofs.quick.sought.Statement.{statement}
 use Rattle.gliding.proofs.quick.sought.Tie as tie
 
 abbrev Inv-loop : tie.InvT-loop
-Inv-loop t states dense state byte from₀ from = (from < states) × (soughtIn t states dense state byte ≡ soughtIn t states dense from byte)
+Inv-loop t states dense index byte from₀ from = (from < states) × (soughtIn t states dense index byte ≡ soughtIn t states dense from byte)
 
 abbrev μ-loop : tie.MeasureT-loop
-μ-loop t states dense state byte from₀ from = from
+μ-loop t states dense index byte from₀ from = from
 
 loop-holds : tie.Need-loop-holds Inv-loop μ-loop
 loop-holds c = (omega arith, refl)
