@@ -48,14 +48,14 @@ leave() {
     rmdir "$lock"
 }
 
-# Proves and builds a program, with a line on standard error for each crate.
+# Proves and builds a program, with a line on standard error for each crate. Four crates at a time, so that no processor waits.
 build() { # PROGRAM
     say 'the program is proved and built now; this takes some minutes, once'
     log=$top/target/$1-log
     guide=$(rt doc) || fail 'the toolchain does not answer'
     printf '%s\n' "${guide%/docs/*}/on/$(uname -m)/toolchain" >"$mark.new"
     ended=$({
-        { (cd "$top" && rt check "$1") </dev/null 2>&1; echo $? >&3; } | tee "$log" | progress >&2
+        { (cd "$top" && RT_JOBS=${RT_JOBS:-4} rt check "$1") </dev/null 2>&1; echo $? >&3; } | tee "$log" | progress >&2
     } 3>&1)
     [ "$ended" = 0 ] || fail "the program could not be proved and built; $log has what the toolchain said"
     mv "$mark.new" "$mark"

@@ -15,8 +15,8 @@ const PART: usize = 4096;
 // So many full parts pass the largest place, 4,294,967,295, so the last of them is refused at the latest.
 const MOST_PARTS: usize = 1048576;
 
-// The reports that one call has room for. A call needs 128, the most phrases of a book.
-const REPORTS: usize = 512;
+// The reports that one call has room for: as many as a book can have phrases, so that a call never lacks room for the next byte.
+const REPORTS: usize = 128;
 
 // A report is two numbers.
 const ROOM: usize = 2 * REPORTS;
