@@ -11,7 +11,7 @@ const SUMMAND: u64 = 1013904223;
 const LOWER: u64 = 262144;
 
 // The next number, below the given one; 0 where that is 0.
-pub fn draw(chance: &mut [u64; 1], below: u16) -> u16
+pub(crate) fn draw(chance: &mut [u64; 1], below: u16) -> u16
     ensures { λ r. ⌜ (r < 16384) × (r ≤ below) ⌝ }
 {
     let next = (chance[0] % MODULUS * FACTOR + SUMMAND) % MODULUS;

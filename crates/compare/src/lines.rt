@@ -1,66 +1,46 @@
-// The lines that are written, and the counts that stand in the last ones.
+// The lines that are written, and what is counted.
 use libc::STDOUT_FILENO;
 
 // ── Counts ──
 
-pub const COUNTS: usize = 17;
+pub(crate) const COUNTS: usize = 13;
 
-pub const CASES: usize = 0;
+pub(crate) const CASES: usize = 0;
 
-pub const PHRASES: usize = 1;
+pub(crate) const PHRASES: usize = 1;
 
-pub const PIECES: usize = 2;
+pub(crate) const PIECES: usize = 2;
 
-// Gaps: open ones, bounded ones, and bounded ones whose least is their most.
-pub const OPEN: usize = 3;
+pub(crate) const BYTES: usize = 3;
 
-pub const BOUNDED: usize = 4;
+pub(crate) const STEPS: usize = 4;
 
-pub const EQUAL: usize = 5;
+pub(crate) const REPORTED: usize = 5;
 
-// Keywords that end with the keyword of another piece.
-pub const ENDING: usize = 6;
+pub(crate) const REPORTS: usize = 6;
 
-// Bytes of letters, and bytes taken by calls.
-pub const BYTES: usize = 7;
+pub(crate) const SHARED: usize = 7;
 
-pub const CALLS: usize = 8;
+pub(crate) const SEVERAL: usize = 8;
 
-pub const TAKEN: usize = 9;
+pub(crate) const FAR: usize = 9;
 
-// Reports: all of them, those at a place with another, those of a phrase with several pieces, those of a phrase with
-// a gap of 150 or more bytes; and letters that have one.
-pub const REPORTS: usize = 10;
+pub(crate) const CALLS: usize = 10;
 
-pub const SHARED: usize = 11;
+pub(crate) const TAKEN: usize = 11;
 
-pub const SEVERAL: usize = 12;
+pub(crate) const DIFFERENCES: usize = 12;
 
-pub const FAR: usize = 13;
-
-pub const REPORTED: usize = 14;
-
-pub const STEPS: usize = 15;
-
-pub const DIFFERENCES: usize = 16;
-
-pub fn add(counts: &mut [u64; COUNTS], which: usize, more: u64) {
+pub(crate) fn add(counts: &mut [u64; COUNTS], which: usize, more: u64) {
     if which < COUNTS {
         counts[which] = std::num::wrapping_add_u64(counts[which], more);
     }
 }
 
-pub fn add_if(counts: &mut [u64; COUNTS], which: usize, holds: bool) {
+pub(crate) fn add_if(counts: &mut [u64; COUNTS], which: usize, holds: bool) {
     if holds {
         add(counts, which, 1);
     }
-}
-
-fn count(counts: &[u64; COUNTS], which: usize) -> u64 {
-    if which < COUNTS {
-        return counts[which];
-    }
-    0
 }
 
 // ── Lines ──
@@ -69,94 +49,84 @@ fn text(words: &[u8]) {
     io::write_all(STDOUT_FILENO, words);
 }
 
-fn number(n: u64) {
-    io::print_decimal(STDOUT_FILENO, n);
+// Some words, and then a number.
+fn part(words: &[u8], number: u64) {
+    text(words);
+    io::print_decimal(STDOUT_FILENO, number);
 }
 
 // Where something is compared: in which case, in which way, and after how many bytes of the letter.
-pub struct Spot {
-    pub case: u64,
-    pub way: u64,
-    pub after: usize,
+pub(crate) struct Spot {
+    pub(crate) case: u64,
+    pub(crate) way: u64,
+    pub(crate) after: usize,
 }
 
-fn way_name(way: u64) {
-    match way {
-        0 => text(b"whole, least room"),
-        1 => text(b"byte by byte, least room"),
-        2 => text(b"cut, least room"),
-        3 => text(b"whole, larger room"),
-        4 => text(b"byte by byte, larger room"),
-        5 => text(b"cut, larger room"),
-        _ => text(b"book"),
-    }
-}
-
-fn spot_name(spot: Spot) {
-    text(b"case ");
-    number(spot.case);
-    text(b", ");
-    way_name(spot.way);
-    text(b", after ");
-    number(spot.after as u64);
-    text(b": ");
-}
-
-fn differ(what: &[u8], due: u64, found: u64) {
+fn differ(spot: Spot, what: &[u8], due: u64, found: u64) {
+    part(b"case ", spot.case);
+    part(b" way ", spot.way);
+    part(b" after ", spot.after as u64);
     text(what);
-    text(b" due ");
-    number(due);
-    text(b", found ");
-    number(found);
+    part(b" due ", due);
+    part(b" found ", found);
     text(b"\n");
 }
 
 // A line where two numbers differ.
-pub fn compare(counts: &mut [u64; COUNTS], spot: Spot, what: &[u8], due: u64, found: u64) {
+pub(crate) fn compare(counts: &mut [u64; COUNTS], spot: Spot, what: &[u8], due: u64, found: u64) {
     if due == found {
         return;
     }
     add(counts, DIFFERENCES, 1);
-    spot_name(spot);
-    differ(what, due, found);
+    differ(spot, what, due, found);
 }
 
-// A count with its name.
-fn with(counts: &[u64; COUNTS], before: &[u8], which: usize, after: &[u8]) {
-    text(before);
-    number(count(counts, which));
-    text(after);
+// ── What was compared ──
+
+const COLON: u8 = 58;
+
+// One byte of the names; where a name ends, its count.
+fn entry(counts: &[u64; COUNTS], which: usize, byte: u8) -> usize {
+    let one = [byte; 1];
+    text(&one);
+    if byte != COLON {
+        return which;
+    }
+    if which >= COUNTS {
+        return which;
+    }
+    part(b" ", counts[which]);
+    which + 1
 }
 
-pub fn summary(counts: &[u64; COUNTS]) {
-    with(counts, b"books: ", PHRASES, b" phrases, ");
-    with(counts, b"", PIECES, b" pieces, ");
-    with(
+// The counts from one on, each behind its name.
+fn table(counts: &[u64; COUNTS], first: usize, names: &[u8]) {
+    let mut which = first;
+    let mut i = 0;
+    while i < names.len() {
+        which = entry(counts, which, names[i]);
+        i += 1;
+    }
+}
+
+pub(crate) fn summary(counts: &[u64; COUNTS]) {
+    table(
         counts,
-        b"",
-        ENDING,
-        b" keywords that end with another piece's\n",
+        PHRASES,
+        b"phrases:\npieces:\nbytes of letters:\nfailure steps:\n",
     );
-    with(counts, b"gaps: ", OPEN, b" open, ");
-    with(counts, b"", BOUNDED, b" bounded, ");
-    with(counts, b"of these ", EQUAL, b" of one width\n");
-    with(counts, b"letters: ", BYTES, b" bytes, ");
-    with(counts, b"", STEPS, b" failure steps, ");
-    with(counts, b"", REPORTED, b" letters with a report\n");
-    with(
+    table(
         counts,
-        b"reports: ",
+        REPORTED,
+        b"letters with a report:\nreports:\nat a place with another:\n",
+    );
+    table(
+        counts,
         SEVERAL,
-        b" of phrases with several pieces, ",
+        b"of several pieces:\nbehind a far gap:\ncalls:\nbytes taken:\n",
     );
-    with(counts, b"", SHARED, b" at a place with another, ");
-    with(counts, b"", FAR, b" of phrases with a gap of 150 or more\n");
-    with(counts, b"calls: ", CALLS, b", which took ");
-    with(counts, b"", TAKEN, b" bytes\n");
-}
-
-pub fn total(counts: &[u64; COUNTS]) {
-    with(counts, b"compared ", CASES, b" books and letters, ");
-    with(counts, b"", REPORTS, b" reports, ");
-    with(counts, b"", DIFFERENCES, b" differences\n");
+    part(b"compared ", counts[CASES]);
+    part(b" books and letters, ", counts[REPORTS]);
+    part(b" reports, ", counts[DIFFERENCES]);
+    text(b" differences\n");
 }

@@ -1,29 +1,26 @@
-// Runs the scanner beside a second matcher, which is made straight from document 01's definitions, on books and letters made by chance.
+// Runs the scanner beside a second matcher, which is made straight from document 01's definitions, on books and letters by chance.
 // It writes a line for each thing in which they differ, then what the books and letters held, and at last how much was compared.
 mod books;
 mod calls;
 mod chance;
 mod due;
-mod gaps;
-mod keywords;
-mod letters;
 mod lines;
 mod list;
 mod matcher;
-mod shapes;
 mod steps;
-mod tallies;
 mod written;
 
+use books::LETTER;
+use books::Shape;
 use books::Size;
 use builder::Built;
-use calls::Way;
+use calls::Feeding;
+use chance::draw;
+use due::DUE;
 use lines::COUNTS;
 use lines::Spot;
 use list::LIST;
-use matcher::DUE;
-use matcher::PLACES;
-use shapes::Shape;
+use list::size;
 
 // So many books, each with a letter.
 const CASES: u64 = 400;
@@ -37,19 +34,48 @@ const TABLES: usize = 49152;
 // What the table memory holds before.
 const OLD: u8 = 0xAA;
 
+// ── Shapes ──
+
+const LONGEST: u16 = 32;
+
+// Every eighth case is a far one. The others go from up to 8 phrases of up to 2 pieces to up to 2 phrases of up to 8 pieces.
+const SHAPES: u64 = 8;
+
+const ALPHABETS: u64 = 4;
+
+fn shape_of(case: u64) -> Shape {
+    let kind = (case % SHAPES) as u16;
+    let alphabet = (case / SHAPES % ALPHABETS) as u16;
+    if kind == 7 {
+        return Shape {
+            alphabet: 0,
+            longest: LONGEST,
+            phrases: 3,
+            pieces: 2,
+            far: true,
+        };
+    }
+    Shape {
+        alphabet,
+        longest: kind % 4 + 2,
+        phrases: 8 - kind,
+        pieces: kind + 2,
+        far: false,
+    }
+}
+
 // ── The book ──
 
 // The length of a book that is taken, 0 for one that is refused.
-fn built(book: &[u8], end: usize, tables: &mut [u8]) -> u64 {
+fn built(book: &[u8], end: usize, tables: &mut [u8]) -> usize {
     if end > book.len() {
         return 0;
     }
     let answer = builder::build(&book[..end], tables);
-    match answer {
-        Built::Done { length } => length as u64,
-        Built::TooSmall => 0,
-        Built::Refused { why: _, at: _ } => 0,
-    }
+    let Built::Done { length } = answer else {
+        return 0;
+    };
+    length
 }
 
 // Every book here must be taken.
@@ -68,83 +94,51 @@ fn build_book(
         way: WAYS,
         after: 0,
     };
-    lines::compare(counts, spot, b"bytes of the book", end as u64, length);
+    lines::compare(
+        counts,
+        spot,
+        b" length of the book",
+        end as u64,
+        length as u64,
+    );
 }
 
 // ── Ways to feed ──
 
-// Six ways: the letter whole, byte by byte or in two parts, first with the least room and then with more.
 const WAYS: u64 = 6;
 
-const PARTS: u64 = 3;
-
-// The room is the least for so many phrases; the larger one has up to so many numbers more, or in some cases all that are due.
-const MOST_PHRASES: usize = 128;
-
+// The larger room has up to so many numbers more than the least one; in every second case so many on top, so that one call mostly
+// takes a short letter whole.
 const MORE: u16 = 100;
 
-const ALL: usize = 700;
-
-const SOME: u64 = 4;
+const ALL: usize = 900;
 
 fn more_room(chance: &mut [u64; 1], case: u64) -> usize {
-    let more = list::pair(chance::draw(chance, MORE));
-    if case % SOME == 0 {
+    let more = size(draw(chance, MORE));
+    if case % 2 == 0 {
         return ALL + more;
     }
     more
 }
 
-// An odd number at times.
-fn slots(kind: u64, phrases: usize, more: usize) -> usize {
-    if phrases > MOST_PHRASES {
-        return 0;
-    }
-    if kind < PARTS {
-        return 2 * phrases + more % 2;
-    }
-    std::num::wrapping_add_usize(2 * phrases, more)
-}
-
-fn cut_of(chance: &mut [u64; 1], length: usize) -> usize {
-    list::pair(chance::draw(chance, (length % PLACES + 1) as u16))
-}
-
-// What all ways to feed one letter share.
-fn way_of(chance: &mut [u64; 1], case: u64, length: usize, phrases: usize) -> Way {
-    let cut = cut_of(chance, length);
-    Way {
-        case,
-        kind: 0,
-        parts: 0,
-        cut,
-        slots: 0,
-        phrases,
-    }
-}
-
 fn all_ways(
     counts: &mut [u64; COUNTS],
-    way: Way,
-    more: usize,
-    due: &[u32; DUE],
-    many: &[usize; PLACES],
-    steps: &[u64; PLACES],
+    feeding: Feeding,
+    due: &[u64; DUE],
     tables: &[u8],
     letter: &[u8],
 ) {
-    let mut kind = 0;
-    while kind < WAYS {
-        let this = Way {
-            case: way.case,
-            kind,
-            parts: kind % PARTS,
-            cut: way.cut,
-            slots: slots(kind, way.phrases, more),
-            phrases: way.phrases,
+    let mut way = 0;
+    while way < WAYS {
+        let this = Feeding {
+            case: feeding.case,
+            way,
+            phrases: feeding.phrases,
+            more: feeding.more,
+            cut: feeding.cut,
         };
-        calls::feed_letter(counts, this, due, many, steps, tables, letter);
-        kind += 1;
+        calls::feed_letter(counts, this, due, tables, letter);
+        way += 1;
     }
 }
 
@@ -154,21 +148,18 @@ fn compare_case(
     counts: &mut [u64; COUNTS],
     list: &[u16; LIST],
     size: Size,
-    way: Way,
-    more: usize,
+    feeding: Feeding,
     letter: &[u8],
 ) {
-    let mut due = [0u32; DUE];
-    let mut many = [0usize; PLACES];
-    let mut steps = [0u64; PLACES];
+    let mut due = [0u64; DUE];
     let mut tables = [OLD; TABLES];
-    let count = matcher::find_reports(list, letter, &mut due, size.pieces);
-    due::find_many(&due, count, &mut many);
-    steps::find_steps(list, letter, &mut steps, size.pieces);
-    tallies::count_case(counts, size, &steps, letter);
-    tallies::count_reports(counts, list, size.pieces, &due, &many, count);
-    build_book(counts, way.case, list, size, &mut tables);
-    all_ways(counts, way, more, &due, &many, &steps, &tables, letter);
+    due::find_due(counts, list, letter, &mut due, size.pieces);
+    build_book(counts, feeding.case, list, size, &mut tables);
+    all_ways(counts, feeding, &due, &tables, letter);
+    lines::add(counts, lines::CASES, 1);
+    lines::add(counts, lines::PHRASES, size.phrases as u64);
+    lines::add(counts, lines::PIECES, size.pieces as u64);
+    lines::add(counts, lines::BYTES, letter.len() as u64);
 }
 
 // The letter has only so many of the bytes.
@@ -176,27 +167,25 @@ fn compare_first(
     counts: &mut [u64; COUNTS],
     list: &[u16; LIST],
     size: Size,
-    way: Way,
-    more: usize,
-    letter: &[u8],
+    feeding: Feeding,
+    bytes: &[u8],
     length: usize,
 ) {
-    if length > letter.len() {
+    if length > bytes.len() {
         return;
     }
-    compare_case(counts, list, size, way, more, &letter[..length]);
+    compare_case(counts, list, size, feeding, &bytes[..length]);
 }
 
-fn compare_letter(
+fn compare_bytes(
     counts: &mut [u64; COUNTS],
     list: &[u16; LIST],
     size: Size,
-    way: Way,
-    more: usize,
-    letter: &[u8; PLACES],
+    feeding: Feeding,
+    bytes: &[u8; LETTER],
     length: usize,
 ) {
-    compare_first(counts, list, size, way, more, letter, length);
+    compare_first(counts, list, size, feeding, bytes, length);
 }
 
 // A letter for the book.
@@ -204,24 +193,29 @@ fn with_letter(
     counts: &mut [u64; COUNTS],
     chance: &mut [u64; 1],
     case: u64,
-    shape: Shape,
     list: &[u16; LIST],
-    size: Size,
+    book: Size,
+    shape: Shape,
 ) {
-    let mut letter = [0u8; PLACES];
-    letters::put_letter(&mut letter, chance, list, size.pieces, shape);
-    let length = letters::length_of(chance, shape.far);
-    let way = way_of(chance, case, length, size.phrases);
+    let mut bytes = [0u8; LETTER];
+    books::put_letter(&mut bytes, chance, list, shape.longest);
+    let length = books::letter_length(chance, shape.far);
     let more = more_room(chance, case);
-    compare_letter(counts, list, size, way, more, &letter, length);
+    let feeding = Feeding {
+        case,
+        way: 0,
+        phrases: book.phrases,
+        more,
+        cut: size(draw(chance, (length % LETTER + 1) as u16)),
+    };
+    compare_bytes(counts, list, book, feeding, &bytes, length);
 }
 
 fn one_case(counts: &mut [u64; COUNTS], chance: &mut [u64; 1], case: u64) {
     let mut list = [0u16; LIST];
-    let shape = shapes::shape_of(case);
-    let size = books::put_phrases(&mut list, chance, shape);
-    tallies::count_book(counts, &list, size.pieces);
-    with_letter(counts, chance, case, shape, &list, size);
+    let shape = shape_of(case);
+    let book = books::put_book(&mut list, chance, shape);
+    with_letter(counts, chance, case, &list, book, shape);
 }
 
 fn main() {
@@ -233,5 +227,4 @@ fn main() {
         case += 1;
     }
     lines::summary(&counts);
-    lines::total(&counts);
 }

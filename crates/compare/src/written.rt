@@ -7,8 +7,8 @@ use crate::list::NTH;
 use crate::list::NUMBER;
 use crate::list::OPEN;
 use crate::list::get;
-use crate::list::letter_of;
-use crate::list::size;
+use crate::list::keyword_byte;
+use crate::list::length;
 
 const KEYWORD: u16 = 0x80;
 
@@ -36,11 +36,11 @@ fn gap(book: &mut [u8], at: usize, list: &[u16; LIST], piece: usize) -> usize {
 
 fn keyword(book: &mut [u8], at: usize, list: &[u16; LIST], piece: usize) -> usize {
     let kind = (get(list, piece, LENGTH) % KEYWORD + KEYWORD) as u8;
-    let length = size(list, piece, LENGTH);
+    let long = length(list, piece);
     let mut end = sheet::byte(book, at, kind);
     let mut i = 0;
-    while i < length {
-        end = sheet::byte(book, end, (letter_of(list, piece, i) % BYTE) as u8);
+    while i < long {
+        end = sheet::byte(book, end, (keyword_byte(list, piece, i) % BYTE) as u8);
         i += 1;
     }
     end
@@ -53,7 +53,7 @@ fn piece_of(book: &mut [u8], at: usize, list: &[u16; LIST], piece: usize) -> usi
 }
 
 // Answers the book's length.
-pub fn write(book: &mut [u8], list: &[u16; LIST], pieces: usize, phrases: usize) -> usize {
+pub(crate) fn write(book: &mut [u8], list: &[u16; LIST], pieces: usize, phrases: usize) -> usize {
     let mut at = sheet::header(book, 0, 1);
     let mut piece = 0;
     while piece < pieces {

@@ -6,22 +6,19 @@ use Rattle.compare.proofs.all_ways.Statement.{statement}
 use Rattle.compare.proofs.all_ways.Tie as tie
 
 abbrev Inv-loop : tie.InvT-loop
-Inv-loop counts₀ way more due many steps tables letter kind₀ counts kind = kind ≤ 6
+Inv-loop counts₀ feeding due tables letter way₀ counts way = way ≤ 6
 
 abbrev μ-loop : tie.MeasureT-loop
-μ-loop counts₀ way more due many steps tables letter kind₀ counts kind = 6 - kind
+μ-loop counts₀ feeding due tables letter way₀ counts way = 6 - way
 
 loop-holds : tie.Need-loop-holds Inv-loop μ-loop
 loop-holds c = search needs
 
-slots-requires : tie.Need-slots-requires Inv-loop μ-loop
-slots-requires c κs = search needs
-
 feed-letter-requires : tie.Need-feed-letter-requires Inv-loop μ-loop
 feed-letter-requires c κs = search needs
 
-add-kind : tie.Need-add-kind Inv-loop μ-loop
-add-kind c = search needs
+add-way : tie.Need-add-way Inv-loop μ-loop
+add-way c = search needs
 
 loop-less : tie.Need-loop-less Inv-loop μ-loop
 loop-less c = search needs
@@ -35,13 +32,4 @@ returns c = search needs
 pub all-ways-spec : {M : Type 1} → statement M
 all-ways-spec =
     tie.close
-    (tie.spec
-    Inv-loop
-    μ-loop
-    loop-holds
-    slots-requires
-    feed-letter-requires
-    add-kind
-    loop-less
-    loop-again
-    returns)
+    (tie.spec Inv-loop μ-loop loop-holds feed-letter-requires add-way loop-less loop-again returns)

@@ -19,12 +19,6 @@ build-requires c κs = search needs
 enum-known-answer : tie.Need-enum-known-answer
 enum-known-answer c = search needs
 
-enum-told : tie.Need-enum-told
-enum-told c = search needs
-
-enum-told-2 : tie.Need-enum-told-2
-enum-told-2 c = search needs
-
 same-length : tie.Need-same-length
 same-length c = search needs
 
@@ -37,12 +31,6 @@ same-length-2 c = search needs
 returns-3 : tie.Need-returns-3
 returns-3 c = search needs
 
-same-length-3 : tie.Need-same-length-3
-same-length-3 c = search needs
-
-returns-4 : tie.Need-returns-4
-returns-4 c = search needs
-
 pub built-spec : {M : Type 1} → statement M
 built-spec =
     tie.close
@@ -51,11 +39,7 @@ built-spec =
     slice-aggregate-build
     build-requires
     enum-known-answer
-    enum-told
-    enum-told-2
     same-length
     returns-2
     same-length-2
-    returns-3
-    same-length-3
-    returns-4)
+    returns-3)

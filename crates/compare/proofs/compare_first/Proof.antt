@@ -1,9 +1,9 @@
 -- The letter ends inside the bytes that were written.
 -- Assumes nothing.
 use mathlib.Core.Path.{sym}
-use borrow.Author.Needs.{needs}
 use lib.Seq.{length-take-le}
 use native.Mathlib.Omega.{arith}
+use borrow.Author.Needs.{needs}
 use Rattle.compare.proofs.compare_first.Statement.{statement}
 use Rattle.compare.proofs.compare_first.Tie as tie
 

@@ -29,9 +29,6 @@ loop-again c = search needs
 summary-requires : tie.Need-summary-requires Inv-loop μ-loop
 summary-requires c κs = search needs
 
-total-requires : tie.Need-total-requires Inv-loop μ-loop
-total-requires c κs = search needs
-
 returns : tie.Need-returns Inv-loop μ-loop
 returns c = search needs
 
@@ -47,5 +44,4 @@ main-spec =
     loop-less
     loop-again
     summary-requires
-    total-requires
     returns)

@@ -14,8 +14,8 @@ abbrev μ-loop : tie.MeasureT-loop
 draw-requires : tie.Need-draw-requires Inv-loop μ-loop
 draw-requires c κs = search needs
 
-pair-requires : tie.Need-pair-requires Inv-loop μ-loop
-pair-requires c κs = search needs
+size-requires : tie.Need-size-requires Inv-loop μ-loop
+size-requires c κs = search needs
 
 returns : tie.Need-returns Inv-loop μ-loop
 returns c = search needs
@@ -60,7 +60,7 @@ put-phrase-spec =
     Inv-loop
     μ-loop
     draw-requires
-    pair-requires
+    size-requires
     returns
     loop-holds
     add-put-piece

@@ -8,10 +8,10 @@ use Rattle.compare.proofs.calls.feed_parts.Statement.{statement}
 use Rattle.compare.proofs.calls.feed_parts.Tie as tie
 
 abbrev Inv-loop : tie.InvT-loop
-Inv-loop counts₀ way due many steps tables running₀ letter at₀ counts running at = (at ≤ length letter) × (length running ≡ length running₀)
+Inv-loop counts₀ feeding due tables running₀ letter at₀ counts running at = (at ≤ length letter) × (length running ≡ length running₀)
 
 abbrev μ-loop : tie.MeasureT-loop
-μ-loop counts₀ way due many steps tables running₀ letter at₀ counts running at = length letter - at
+μ-loop counts₀ feeding due tables running₀ letter at₀ counts running at = length letter - at
 
 loop-holds : tie.Need-loop-holds Inv-loop μ-loop
 loop-holds c = search needs

@@ -1,6 +1,5 @@
 -- A remainder is below the divisor and not above the number that is divided.
 -- Assumes nothing.
-
 use native.Mathlib.Nat.{mod-le, mod-lt, lt-of-le-of-lt, le-of-lt}
 use native.Mathlib.Omega.{arith}
 use borrow.Author.Needs.{needs}

@@ -11,8 +11,8 @@ Inv-loop list letter piece start long i₀ i = i ≤ long
 abbrev μ-loop : tie.MeasureT-loop
 μ-loop list letter piece start long i₀ i = long - i
 
-size-requires : tie.Need-size-requires Inv-loop μ-loop
-size-requires c κs = search needs
+length-requires : tie.Need-length-requires Inv-loop μ-loop
+length-requires c κs = search needs
 
 returns : tie.Need-returns Inv-loop μ-loop
 returns c = search needs
@@ -26,8 +26,8 @@ returns-2 c = search needs
 loop-holds : tie.Need-loop-holds Inv-loop μ-loop
 loop-holds c = search needs
 
-letter-of-requires : tie.Need-letter-of-requires Inv-loop μ-loop
-letter-of-requires c κs = search needs
+keyword-byte-requires : tie.Need-keyword-byte-requires Inv-loop μ-loop
+keyword-byte-requires c κs = search needs
 
 add-byte : tie.Need-add-byte Inv-loop μ-loop
 add-byte c = search needs
@@ -59,12 +59,12 @@ fills-spec =
     (tie.spec
     Inv-loop
     μ-loop
-    size-requires
+    length-requires
     returns
     sub-if2
     returns-2
     loop-holds
-    letter-of-requires
+    keyword-byte-requires
     add-byte
     shared-slice-read-byte
     byte-requires

@@ -14,8 +14,8 @@ abbrev μ-loop : tie.MeasureT-loop
 loop-holds : tie.Need-loop-holds Inv-loop μ-loop
 loop-holds c = search needs
 
-try-places-requires : tie.Need-try-places-requires Inv-loop μ-loop
-try-places-requires c κs = search needs
+find-piece-requires : tie.Need-find-piece-requires Inv-loop μ-loop
+find-piece-requires c κs = search needs
 
 add-piece : tie.Need-add-piece Inv-loop μ-loop
 add-piece c = search needs
@@ -36,7 +36,7 @@ find-ends-spec =
     Inv-loop
     μ-loop
     loop-holds
-    try-places-requires
+    find-piece-requires
     add-piece
     loop-less
     loop-again

@@ -17,8 +17,8 @@ returns c = search needs
 returns-2 : tie.Need-returns-2 Inv-loop μ-loop
 returns-2 c = search needs
 
-size-requires : tie.Need-size-requires Inv-loop μ-loop
-size-requires c κs = search needs
+length-requires : tie.Need-length-requires Inv-loop μ-loop
+length-requires c κs = search needs
 
 returns-3 : tie.Need-returns-3 Inv-loop μ-loop
 returns-3 c = search needs
@@ -26,8 +26,8 @@ returns-3 c = search needs
 loop-holds : tie.Need-loop-holds Inv-loop μ-loop
 loop-holds c = search needs
 
-letter-of-requires : tie.Need-letter-of-requires Inv-loop μ-loop
-letter-of-requires c κs = search needs
+keyword-byte-requires : tie.Need-keyword-byte-requires Inv-loop μ-loop
+keyword-byte-requires c κs = search needs
 
 add-byte : tie.Need-add-byte Inv-loop μ-loop
 add-byte c = search needs
@@ -61,10 +61,10 @@ is-prefix-spec =
     μ-loop
     returns
     returns-2
-    size-requires
+    length-requires
     returns-3
     loop-holds
-    letter-of-requires
+    keyword-byte-requires
     add-byte
     shared-slice-read-byte
     byte-requires

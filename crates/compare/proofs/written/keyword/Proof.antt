@@ -22,8 +22,8 @@ add-kind c = search needs
 cast-kind : tie.Need-cast-kind Inv-loop μ-loop
 cast-kind c = search needs
 
-size-requires : tie.Need-size-requires Inv-loop μ-loop
-size-requires c κs = search needs
+length-requires : tie.Need-length-requires Inv-loop μ-loop
+length-requires c κs = search needs
 
 byte-requires : tie.Need-byte-requires Inv-loop μ-loop
 byte-requires c κs = search needs
@@ -31,8 +31,8 @@ byte-requires c κs = search needs
 loop-holds : tie.Need-loop-holds Inv-loop μ-loop
 loop-holds c = search needs
 
-letter-of-requires : tie.Need-letter-of-requires Inv-loop μ-loop
-letter-of-requires c κs = search needs
+keyword-byte-requires : tie.Need-keyword-byte-requires Inv-loop μ-loop
+keyword-byte-requires c κs = search needs
 
 cast-byte : tie.Need-cast-byte Inv-loop μ-loop
 cast-byte c = search needs
@@ -64,10 +64,10 @@ keyword-spec =
     get-requires
     add-kind
     cast-kind
-    size-requires
+    length-requires
     byte-requires
     loop-holds
-    letter-of-requires
+    keyword-byte-requires
     cast-byte
     byte-requires-2
     add-i
