@@ -54,10 +54,11 @@ refusedWith says t m out =
     let line : Left = withLine out 0 (refusedLine (says .number) (says .offset)) in
     record { answer = refusedAnswer (line .next); tables = t; running = m; out = line .buffer }
 
--- What build says and leaves leads to.
+-- Build's number decides: with 0 the letter begins, with any other the book is refused.
 unfoldable pub openedAs : Said → List ℕ → List ℕ → List ℕ → OpenEnd
 openedAs says t m out = cond (eqb (says .number) 0) (begunOf t m out (says .offset)) (refusedWith says t m out)
 
+-- The book is built, and the letter begun.
 unfoldable pub openOf : List ℕ → List ℕ → List ℕ → List ℕ → OpenEnd
 openOf book t m out = openedAs (saidBy (buildOf book t .answer)) (buildOf book t .tables) m out
 
@@ -92,6 +93,7 @@ listedAs fed.TooSmall t m room out = record { answer = listed.NotTaken; running 
 listedAs fed.NotTables t m room out = record { answer = listed.NotTaken; running = m; room = room; out = out }
 listedAs fed.NoRoom t m room out = record { answer = listed.NotTaken; running = m; room = room; out = out }
 
+-- The part is fed.
 unfoldable pub listOf : List ℕ → List ℕ → List ℕ → List ℕ → List ℕ → ListEnd
 listOf t m part room out =
     let end : FeedEnd = feedOf t m part room in
@@ -109,5 +111,6 @@ lastOf out taken hits steps =
     let line : Left = withLine out 0 (endLine taken hits steps) in
     cond (withoutHits hits) (withLine (line .buffer) (line .next) noStatement) line
 
+-- The line of a letter that is too long.
 unfoldable pub tooLongOf : List ℕ → ℕ → Left
 tooLongOf out taken = withLine out 0 (letterLine taken)

@@ -19,43 +19,37 @@ use Rattle.scanner.specs.Meant.{TablesOf, RunningOf}
 use Rattle.listing.specs.Lines.{letterLine, longestLine}
 use Rattle.listing.specs.Listing.{partLength, largestPlace, wholeParts, hitLines, lastLines, wholeLetter, cutLetter, letterLines}
 use Rattle.parts.proofs.Texts.{last-text, too-long-text}
-use Rattle.turns.specs.Turns.{Lent, Totals, noTotals, partAt, remaining, lastText, tooLongText, turnsFrom}
+use Rattle.turns.specs.Turns.{Lent, Totals, noTotals, partBegin, partUsed, remaining, lastText, tooLongText, turnsFrom}
 use Rattle.turns.proofs.Few.{reports-few}
 use Rattle.turns.proofs.Turn.{Stands, turn-too-long}
 use Rattle.turns.proofs.Turns.{Offers, turns-right}
 
--- What is offered after the bytes x, of a letter that is x and a rest: the rest up to the next multiple of a part's length.
-rest-offered : (letter x rest : List ℕ) → x ++ rest ≡ letter → remaining letter (length x) ≡ take (partLength - length x % partLength) rest
-unfolding remaining partAt
-rest-offered letter x rest whole =
+-- What remains of a part, where the bytes x end in it: the bytes after x up to its end.
+part-left : (begin used size count : ℕ) (letter x rest : List ℕ) → x ++ rest ≡ letter → begin + used ≡ length x → used + count ≡ size
+    → drop used (take size (drop begin letter)) ≡ take count rest
+part-left begin used size count letter x rest whole ends fills =
     ap (drop used) parted
-    ∙ ap (λ (k : ℕ). drop k (take used from ++ take (partLength - used) (drop used from))) (sym front)
-    ∙ drop-append-seam (take used from) (take (partLength - used) (drop used from))
-    ∙ ap (take (partLength - used)) behind
+    ∙ ap (λ (k : ℕ). drop k (take used from ++ take count (drop used from))) (sym front)
+    ∙ drop-append-seam (take used from) (take count (drop used from))
+    ∙ ap (take count) behind
   where
-    used : ℕ
-    used = length x % partLength
-
-    begin : ℕ
-    begin = length x / partLength * partLength
-
     from : List ℕ
     from = drop begin letter
 
     front : length (take used from) ≡ used
     front = length-take-le used from (omega (arith, length-drop begin letter, ap length whole, length-append x rest))
 
-    length-split : partLength ≡ used + (partLength - used)
-    length-split = omega arith
-
-    length-parted : begin + used ≡ length x
-    length-parted = omega arith
-
-    parted : take partLength from ≡ take used from ++ take (partLength - used) (drop used from)
-    parted = ap (λ (k : ℕ). take k from) length-split ∙ take-add used (partLength - used) from
+    parted : take size from ≡ take used from ++ take count (drop used from)
+    parted = ap (λ (k : ℕ). take k from) (sym fills) ∙ take-add used count from
 
     behind : drop used from ≡ rest
-    behind = drop-drop used begin letter ∙ ap (λ (k : ℕ). drop k letter) length-parted ∙ ap (drop (length x)) (sym whole) ∙ drop-append-seam x rest
+    behind = drop-drop used begin letter ∙ ap (λ (k : ℕ). drop k letter) ends ∙ ap (drop (length x)) (sym whole) ∙ drop-append-seam x rest
+
+-- What is offered after the bytes x, of a letter that is x and a rest: the rest up to the next multiple of a part's length.
+rest-offered : (letter x rest : List ℕ) → x ++ rest ≡ letter → remaining letter (length x) ≡ take (partLength - length x % partLength) rest
+unfolding remaining
+rest-offered letter x rest whole =
+    part-left (partBegin (length x)) (partUsed (length x)) partLength (partLength - length x % partLength) letter x rest whole (omega arith) (omega arith)
 
 -- Before the first byte.
 at-start : (book : Book) (m : List ℕ) → RunningOf book [] m → Stands book [] m noTotals

@@ -46,13 +46,17 @@ totalsWith totals answer = record {
 
 -- ── The turns ──
 
--- The letter comes in parts of 4,096 bytes, the last one shorter: this is the part in which the byte stands that follows so many.
-unfoldable pub partAt : List ℕ → ℕ → List ℕ
-partAt letter taken = take partLength (drop (taken / partLength * partLength) letter)
+-- The letter comes in parts of 4,096 bytes, the last one shorter. The part in which the byte stands that follows so many begins here, and so many
+-- of its bytes are used.
+abbrev pub partBegin : ℕ → ℕ
+partBegin taken = taken / partLength * partLength
+
+abbrev pub partUsed : ℕ → ℕ
+partUsed taken = taken % partLength
 
 -- A part is used up before the next is read: what is offered after so many bytes is what remains of that part.
 unfoldable pub remaining : List ℕ → ℕ → List ℕ
-remaining letter taken = drop (taken % partLength) (partAt letter taken)
+remaining letter taken = drop (partUsed taken) (take partLength (drop (partBegin taken) letter))
 
 -- What a turn's answer leads to: the lines of the turn, and the turns after it; or the line of a letter that is too long, and nothing after it. Any
 -- other refusal ends the listing there.
