@@ -1,9 +1,9 @@
 //! The whole listing of a letter through bin/list, beside feed.
 use crate::book::Book;
-use crate::timing::{median, speed, PASSES};
+use crate::timing::{median, programs_seconds, speed, PASSES};
 use std::fs::{self, File};
 use std::path::Path;
-use std::process::{Command, Stdio};
+use std::process::Command;
 use std::time::Instant;
 use tsuvrankhe::{Scanner, Tables};
 
@@ -19,8 +19,18 @@ fn end_line(book: &[u8], letter: &[u8]) -> String {
     )
 }
 
-/// Lists the letter through bin/list from a file into a file, and says how that compares with feed's speed. The clock on the wall is used here, since
-/// another process does the work.
+/// One pass of bin/list from a file into a file: seconds of processor time, and by the clock on the wall.
+fn pass(list: &Path, input: &Path, output: &Path) -> (f64, f64) {
+    let mut command = Command::new(list);
+    command
+        .stdin(File::open(input).unwrap())
+        .stdout(File::create(output).unwrap());
+    let (before, started) = (programs_seconds(), Instant::now());
+    assert!(command.status().unwrap().success(), "bin/list");
+    (programs_seconds() - before, started.elapsed().as_secs_f64())
+}
+
+/// Lists the letter through bin/list and says how that compares with feed's speed, which is one of processor time.
 pub fn measure(book: &Book, letter: &[u8], feed: f64) {
     let top = Path::new(env!("CARGO_MANIFEST_DIR")).join("..");
     let list = top.join("bin/list");
@@ -34,38 +44,30 @@ pub fn measure(book: &Book, letter: &[u8], feed: f64) {
     let book = book.written();
     let length = (book.len() as u16).to_be_bytes();
     fs::write(&input, [&length, &book[..], letter].concat()).unwrap();
-    let pass = || {
-        let mut command = Command::new(&list);
-        command
-            .stdin(File::open(&input).unwrap())
-            .stdout(File::create(&output).unwrap())
-            .stderr(Stdio::inherit());
-        let started = Instant::now();
-        assert!(command.status().unwrap().success(), "bin/list");
-        started.elapsed().as_secs_f64()
-    };
     // The first pass may have to make the program.
-    pass();
-    let first = pass();
+    pass(&list, &input, &output);
+    let first = pass(&list, &input, &output);
     let written = fs::read_to_string(&output).unwrap();
-    assert_eq!(
-        written.lines().last(),
-        Some(&end_line(&book, letter)[..]),
-        "the listing's end"
-    );
-    // A listing under an emulator is measured once: it says nothing about speed.
-    let passes = if first < 5.0 { PASSES } else { 1 };
-    let time = median((0..passes).map(|_| pass()).collect());
-    let listed = speed(letter.len(), time);
-    let note = if cfg!(target_arch = "x86_64") {
-        ""
-    } else {
-        " (bin/list is an x86-64 program: not a speed of this machine)"
-    };
-    println!(
-        "listing: {} bytes, {listed:.1} MB/s by the wall, {:.2} of feed's {feed:.1}{note}",
+    let end = end_line(&book, letter);
+    assert_eq!(written.lines().last(), Some(&end[..]), "the listing's end");
+
+    // A listing under an emulator takes long and says nothing about speed: one more pass is enough.
+    let passes = if first.0 < 5.0 { PASSES } else { 1 };
+    let times: Vec<(f64, f64)> = (0..passes).map(|_| pass(&list, &input, &output)).collect();
+    let listed = speed(
         letter.len(),
-        listed / feed
+        median(times.iter().map(|time| time.0).collect()),
     );
+    let by_the_wall = speed(
+        letter.len(),
+        median(times.iter().map(|time| time.1).collect()),
+    );
+    let part = listed / feed;
+    println!("listing: {} bytes, {listed:.1} MB/s, {part:.2} of feed's {feed:.1}; by the wall {by_the_wall:.1} MB/s", letter.len());
+    if !cfg!(target_arch = "x86_64") {
+        println!(
+            "listing: bin/list is an x86-64 program, so that this is no speed of this machine"
+        );
+    }
     fs::remove_dir_all(&folder).unwrap();
 }

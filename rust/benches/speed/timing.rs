@@ -14,8 +14,31 @@ struct Timespec {
 /// The processor time of the calling thread, as Linux numbers its clocks.
 const THREAD_CPUTIME: i32 = 3;
 
+/// What the system tells of finished processes: the times of their own work and of the system's for them, in seconds and millionths, and more.
+#[repr(C)]
+struct Usage {
+    own: [i64; 2],
+    systems: [i64; 2],
+    more: [i64; 14],
+}
+
+const CHILDREN: i32 = -1;
+
 extern "C" {
     fn clock_gettime(clock: i32, time: *mut Timespec) -> i32;
+    fn getrusage(whose: i32, usage: *mut Usage) -> i32;
+}
+
+/// The processor time, in seconds, of all programs that were started from here and have ended.
+pub fn programs_seconds() -> f64 {
+    let mut usage = MaybeUninit::uninit();
+    // SAFETY: the call fills in the usage if it answers 0.
+    let usage: Usage = unsafe {
+        assert_eq!(getrusage(CHILDREN, usage.as_mut_ptr()), 0);
+        usage.assume_init()
+    };
+    let in_seconds = |[seconds, millionths]: [i64; 2]| seconds as f64 + millionths as f64 / 1e6;
+    in_seconds(usage.own) + in_seconds(usage.systems)
 }
 
 /// The time for which this thread has had a processor: other work on the machine disturbs it less than a clock on the wall.
