@@ -10,8 +10,8 @@ use lib.Dec.{ltb}
 use lib.ListN.{length}
 use borrow.Author.Tests.{ltb-false}
 use Rattle.tables.specs.Layout.{roomForPhrases}
-use Rattle.tables.specs.Reads.{Whole, stateCountIn, phraseCountIn}
-use Rattle.stepping.specs.Steps.{nextIn}
+use Rattle.tables.specs.Reads.{Whole, stateCountIn, denseIn, phraseCountIn}
+use Rattle.gliding.specs.Quick.{quickIn}
 use Rattle.window.proofs.Happened.{happened-few}
 use Rattle.feeding.specs.Taken.{Run, atStart, byteTaken, freeAfter, partTaken}
 use Rattle.scanner.specs.Answers.{said}
@@ -65,7 +65,7 @@ written-few t room [] run few = few
 written-few t room (byte ∷ part) run few = go (ltb (freeAfter room run) (phraseCountIn t)) refl (written-few t room part (byteTaken t run byte))
   where
     next-few : phraseCountIn t ≤ freeAfter room run → byteTaken t run byte .here .reports .written ≤ room
-    next-few free = omega (arith, few, happened-few t (nextIn t (stateCountIn t) (run .state) byte .at) (run .place + 1) (run .here))
+    next-few free = omega (arith, few, happened-few t (quickIn t (stateCountIn t) (denseIn t) (run .state) byte) (run .place + 1) (run .here))
 
     go : (v : Bool) → ltb (freeAfter room run) (phraseCountIn t) ≡ v
         → (byteTaken t run byte .here .reports .written ≤ room → partTaken t room part (byteTaken t run byte) .here .reports .written ≤ room)
