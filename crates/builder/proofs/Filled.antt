@@ -13,7 +13,7 @@ use Rattle.numbering.specs.States.{stateCount}
 use Rattle.tables.specs.Regions.{Laid}
 use Rattle.tables.specs.Spots.{spotCount}
 use Rattle.tables.specs.Layout.{tablesSize, tablesLayout, infoAt, outAt, depthAt, labelAt, pieceAt, rowsAt, roomForStates, roomForPieces, bookMark}
-use Rattle.tables.specs.Reads.{Whole, linkIn}
+use Rattle.tables.specs.Reads.{linkIn}
 use Rattle.tables.proofs.Parts.{number-zero}
 use Rattle.tables.proofs.Fits.{fits}
 use Rattle.stepping.proofs.Kept.{states-kept, failures-kept}

@@ -1,6 +1,6 @@
 -- Columns, rows and depths are three passes over regions of their own: each finds the states and failures as they were, and what the one
 -- before it filled in. Assumes nothing.
-use mathlib.Core.Path.{_≡_, sym, ap, _∙_}
+use mathlib.Core.Path.{_≡_, ap, _∙_}
 use mathlib.Core.Logic.{inl, inr}
 use mathlib.Core.List.{List}
 use Prim.Native.Nat.{ℕ, _+_, _*_, _≤_, _<_}
@@ -19,7 +19,7 @@ use Rattle.tables.specs.Reads.{Whole, denseIn, columnIn, infoIn, depthIn}
 use Rattle.tables.proofs.Fits.{fits}
 use Rattle.stepping.specs.Held.{HoldsStates, HoldsFailures}
 use Rattle.stepping.proofs.Kept.{states-kept, failures-kept}
-use Rattle.columns.specs.Columns.{denseFor, columned}
+use Rattle.columns.specs.Columns.{columned}
 use Rattle.columns.specs.Right as columns
 use Rattle.columns.proofs.Right.{dense-right, columned-right}
 use Rattle.cells.specs.Cells.{withRows}

@@ -15,12 +15,12 @@ use Rattle.format.specs.Limits.{All, Bytes}
 use Rattle.numbering.specs.States.{stateCount, stepBy}
 use Rattle.numbering.specs.Walks.{Landed}
 use Rattle.numbering.proofs.Steps.{stepBy-inside}
-use Rattle.tables.specs.Layout.{rowsAt, roomForStates}
+use Rattle.tables.specs.Layout.{labelAt, pieceAt, rowsAt, roomForStates}
 use Rattle.tables.specs.Reads.{Whole, cellIn, backIn}
 use Rattle.tables.proofs.Followed.{back-below}
 use Rattle.stepping.specs.Steps.{childByIn, nextIn}
 use Rattle.stepping.specs.Held.{HoldsStates, HoldsFailures}
-use Rattle.stepping.proofs.Turns.{later, next-forward, next-back}
+use Rattle.stepping.proofs.Turns.{next-forward, next-back}
 use Rattle.stepping.proofs.Turns as stepping
 use Rattle.stepping.proofs.Right.{next-right}
 use Rattle.stepping.proofs.Kept.{states-kept, failures-kept}
@@ -99,7 +99,7 @@ module _ (book : Book) (bytes : All Bytes (keywords (book .phrases))) (room : st
         small : next < 65536
         small = omega (arith, stepBy-inside book bytes n byte)
 
-        same : (k : ℕ) → 6688 ≤ k → k < 16930 → getD t k 0 ≡ getD before k 0
+        same : (k : ℕ) → labelAt ≤ k → k < pieceAt → getD t k 0 ≡ getD before k 0
         same k a b = done .kept k (inl (omega arith))
 
         value : nextFor t (stateCount book) column byte n ≡ next

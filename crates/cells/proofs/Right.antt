@@ -2,13 +2,12 @@
 -- Assumes nothing.
 use mathlib.Core.Path.{_≡_, refl, sym, ap, _∙_}
 use mathlib.Core.Logic.{_⊎_, inl, inr, ⊎-elim}
-use mathlib.Core.Bool.{Bool, true, false, So}
+use mathlib.Core.Bool.{Bool, true, false}
 use mathlib.Core.List.{List}
 use Prim.Native.Nat.{ℕ, zero, suc, _+_, _*_, _/_, _%_, _≤_, _<_}
 use native.Mathlib.Nat.{le-suc-iff, mul-le-mul-left, mul-suc, mul-zero, mul-one, div-add-mod, mod-lt, div-lt-iff-lt-mul, mul-comm}
 use native.Mathlib.Omega.{arith}
 use lib.ListN.{length, getD}
-use borrow.Author.Tests.{le-ltb}
 use Rattle.lent.specs.Numbers.{numberAt}
 use Rattle.lent.proofs.Cases.{lt-or-le, eq-or-ne}
 use Rattle.lent.proofs.Numbers.{number-agree}
@@ -17,14 +16,13 @@ use Rattle.format.specs.Limits.{All, Bytes, Within}
 use Rattle.numbering.specs.States.{byteValues, stateCount, stepBy}
 use Rattle.numbering.proofs.Keywords.{within-bytes}
 use Rattle.tables.specs.Classes.{occurs, occurring, classOf, classCount}
-use Rattle.tables.specs.Layout.{rowsAt, infoAt, roomForStates, roomForCells, upTo, denseCount, columnOf, nextByClass, cellOf}
-use Rattle.tables.specs.Reads.{Whole, columnIn, cellIn}
+use Rattle.tables.specs.Layout.{columnAt, rowsAt, roomForStates, roomForCells, upTo, denseCount, columnOf, nextByClass, cellOf}
+use Rattle.tables.specs.Reads.{columnIn, cellIn}
 use Rattle.tables.proofs.Parts.{number-zero}
 use Rattle.tables.proofs.Fits.{fits}
-use Rattle.tables.proofs.Fields.{up-to}
+use Rattle.tables.proofs.Fields.{up-to, up-past}
 use Rattle.tables.proofs.Classes.{class-occurs, class-absent, class-once, class-below, byte-class, cells-room, dense-range}
 use Rattle.tables.proofs.Fast.{next-class}
-use Rattle.stepping.specs.Held.{HoldsStates, HoldsFailures}
 use Rattle.stepping.proofs.Kept.{states-kept, failures-kept}
 use Rattle.cells.specs.Cells.{withCells, withColumn, withRows}
 use Rattle.cells.specs.Right.{Ready, Right}
@@ -34,10 +32,6 @@ use Rattle.cells.proofs.Columns.{Celled, celled-to}
 -- Columns follow each other: a later one begins where an earlier one has ended.
 column-after : (d c e : ℕ) → c < e → d * c + d ≤ d * e
 column-after d c e l = omega (arith, mul-suc d c, mul-le-mul-left d l)
-
-past : (count : ℕ) (value : ℕ → ℕ) (j : ℕ) → count ≤ j → upTo count value j ≡ 0
-unfolding upTo
-past count value j l = rw (le-ltb j count l)
 
 module _ (book : Book) (within : Within book) (before : List ℕ) (ready : Ready book before) where
   abbrev dense : ℕ
@@ -62,7 +56,7 @@ module _ (book : Book) (within : Within book) (before : List ℕ) (ready : Ready
     low-kept k a = h .kept k (inl (omega arith))
 
     column-is : columnIn t n ≡ columnOf book n
-    column-is = number-agree 2 t before (32 + 2 * n) (λ k a b. low-kept k (omega arith)) ∙ ready .columns n l
+    column-is = number-agree 2 t before (columnAt + 2 * n) (λ k a b. low-kept k (omega arith)) ∙ ready .columns n l
 
     -- A byte that does not occur leads to the root from everywhere, and the first column says so.
     absent-further : occurs book n ≡ false → Rowed (suc n) t
@@ -204,7 +198,7 @@ module _ (book : Book) (within : Within book) (before : List ℕ) (ready : Ready
       behind : (j : ℕ) → j < roomForCells → dense * classCount book ≤ j → numberAt 2 after (rowsAt + 2 * j) ≡ upTo (dense * classCount book) (cellOf book) j
       behind j l k =
           number-zero 2 after (rowsAt + 2 * j) (λ i a b. rowed .kept i (inr (omega arith)) ∙ ready .zeros i (omega arith) (omega arith))
-          ∙ sym (past (dense * classCount book) (cellOf book) j k)
+          ∙ sym (up-past (dense * classCount book) (cellOf book) j k)
 
       kept : (k : ℕ) → (k < rowsAt) ⊎ (49152 ≤ k) → getD after k 0 ≡ getD before k 0
       kept k (inl e) = rowed .kept k (inl (omega arith))

@@ -31,7 +31,7 @@ fn put_cell(t: &mut [u8], states: usize, column: usize, byte: u8, state: State)
     lent::put2(t, column + 2 * state.index(), next as u16);
 }
 
-// The cells of the first states of all, in the order of their numbers.
+// The cells of the states that have a row, in the order of their numbers: a failure has a smaller one, so its cell is there already.
 fn put_cells(t: &mut [u8], states: usize, dense: usize, column: usize, byte: u8)
     requires { ⌜ (Whole (now t)) × (states ≤ roomForStates) × (dense ≤ states) × (column + 2 * dense ≤ 49152) ⌝ }
     ensures { λ _. ⌜ now (t .exit) ≡ withCells (now (t .entry)) states column byte dense ⌝ }
@@ -43,8 +43,8 @@ fn put_cells(t: &mut [u8], states: usize, dense: usize, column: usize, byte: u8)
     }
 }
 
-// Fills in the column of a byte. A byte that does not occur has the first column, which is left as it is: from there all bytes lead to
-// the root, as zero memory says already.
+// Fills in the column of a byte. A byte that does not occur has the first column, which is left as it is: by such a byte every state
+// leads to the root, as zero memory says already.
 fn fill_column(t: &mut [u8], states: usize, dense: usize, byte: u8)
     requires { ⌜ (Whole (now t)) × (states ≤ roomForStates) × (dense ≤ states) ⌝ }
     ensures { λ _. ⌜ now (t .exit) ≡ withColumn (now (t .entry)) states dense byte ⌝ }

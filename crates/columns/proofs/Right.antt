@@ -1,13 +1,12 @@
 -- The classes come in the order of the bytes, and each column follows the one before it. Assumes nothing.
-use mathlib.Core.Path.{_≡_, refl, sym, ap, _∙_}
+use mathlib.Core.Path.{_≡_, refl, sym, _∙_}
 use mathlib.Core.Logic.{_⊎_, inl, inr, ⊎-elim}
-use mathlib.Core.Bool.{Bool, true, false, cond}
+use mathlib.Core.Bool.{Bool, true, false}
 use mathlib.Core.List.{List}
 use Prim.Native.Nat.{ℕ, zero, suc, _+_, _*_, _%_, _≤_, _<_}
 use native.Mathlib.Nat.{le-suc-iff}
 use native.Mathlib.Omega.{arith}
-use lib.Dec.{eqb}
-use lib.ListN.{length, getD, length-append}
+use lib.ListN.{length, getD}
 use borrow.Author.Tests.{eq-eqb, ne-eqb}
 use Rattle.lent.specs.Numbers.{withNumber}
 use Rattle.lent.proofs.Numbers.{length-withNumber, number-written, number-apart, number-byte-apart, number-agree}
@@ -17,9 +16,9 @@ use Rattle.format.specs.Limits.{All, Bytes}
 use Rattle.numbering.specs.Listed.{below}
 use Rattle.numbering.specs.States.{byteValues, stateCount}
 use Rattle.tables.specs.Classes.{occurs, occurringBelow, occurring, classOf, classCount}
-use Rattle.tables.specs.Layout.{denseAt, piecesAt, columnAt, infoAt, rowsAt, labelAt, roomForStates, roomForCells, labelOf, denseCount, columnOf}
+use Rattle.tables.specs.Layout.{denseAt, piecesAt, columnAt, infoAt, rowsAt, labelAt, roomForStates, labelOf, denseCount, columnOf}
 use Rattle.tables.specs.Reads.{Whole, labelIn, columnIn}
-use Rattle.tables.proofs.Classes.{below-grows, below-few, class-occurs, class-absent, class-below, class-count, cells-room, cell-inside, dense-range}
+use Rattle.tables.proofs.Classes.{below-grows, class-occurs, class-absent, class-below, class-count, cells-room, cell-inside, dense-range}
 use Rattle.columns.specs.Columns.{labelledBy, classFor, nextClass, withClass, Classed, classed, mostRows, withColumn, withColumns, denseFor, columned}
 use Rattle.columns.specs.Right.{Right}
 use Rattle.columns.proofs.Seen.{seen-none, seen-some}

@@ -2,14 +2,11 @@
 use mathlib.Core.Path.{_≡_, refl, sym, ap, _∙_}
 use mathlib.Core.Bool.{true, false, So, false≢true}
 use mathlib.Core.List.{List, [], _∷_, _++_}
-use Prim.Native.Nat.{ℕ, zero, suc, _+_, _-_, _≤_, _<_}
+use Prim.Native.Nat.{ℕ, zero, suc, _+_, _-_, _<_}
 use native.Mathlib.Omega.{arith}
-use lib.Dec.{eqb}
 use lib.ListN.{length}
-use borrow.Author.Tests.{eq-eqb, ne-eqb}
 use Rattle.meaning.specs.Books.{Book, keywords}
 use Rattle.meaning.specs.Automaton.{isState}
-use Rattle.meaning.proofs.Truth.{untrue}
 use Rattle.format.specs.Limits.{All, Bytes}
 use Rattle.numbering.specs.States.{stateCount, stateAt, numberIn, lastByte}
 use Rattle.numbering.proofs.Order.{length-snoc, lastByte-snoc}
@@ -19,7 +16,6 @@ use Rattle.tables.specs.Classes.{occurs}
 use Rattle.tables.specs.Layout.{labelOf}
 use Rattle.tables.specs.Reads.{labelIn}
 use Rattle.tables.proofs.Classes.{state-occurs, occurs-state}
-use Rattle.stepping.specs.Steps.{labelledIn}
 use Rattle.stepping.proofs.Right.{Has, found, missing}
 use Rattle.columns.specs.Columns.{labelledBy}
 

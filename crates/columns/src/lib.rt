@@ -49,7 +49,8 @@ fn most_rows(states: usize, classes: usize) -> usize
     if states < room { states } else { room }
 }
 
-// Where the class of a byte was noted, writes where its column begins. In the tables of a book that is inside them.
+// Writes where the column of a byte begins over the class that was noted there. In the tables of a book that is a place of the memory,
+// and two bytes can say it.
 fn put_column(t: &mut [u8], dense: usize, byte: usize)
     requires { ⌜ (Whole (now t)) × (dense ≤ roomForStates) × (byte < 256) ⌝ }
     ensures { λ _. ⌜ now (t .exit) ≡ withColumn (now (t .entry)) dense byte ⌝ }

@@ -1,30 +1,28 @@
 -- A failure has a smaller number, so its depth is filled in already, and a state is one deeper. Assumes nothing.
-use mathlib.Core.Path.{_≡_, refl, sym, ap, _∙_}
+use mathlib.Core.Path.{_≡_, refl, ap, _∙_}
 use mathlib.Core.Logic.{_⊎_, inl, inr, ⊎-elim}
 use mathlib.Core.List.{List, [], _∷_}
-use Prim.Native.Nat.{ℕ, zero, suc, _+_, _%_, _≤_, _<_}
+use Prim.Native.Nat.{ℕ, zero, suc, _+_, _≤_, _<_}
 use native.Mathlib.Nat.{le-suc-iff}
 use native.Mathlib.Omega.{arith}
-use lib.ListN.{length, getD, set, length-set}
+use lib.ListN.{length, getD, length-set}
 use lib.Seq.{getD-set-same, getD-set-other}
 use Rattle.meaning.specs.Books.{Book, keywords}
-use Rattle.meaning.specs.Automaton.{isState, failure, depth}
+use Rattle.meaning.specs.Automaton.{isState, depth}
 use Rattle.meaning.proofs.Depth.{depth-nil, depth-failure}
 use Rattle.format.specs.Limits.{All, Bytes, Within}
 use Rattle.numbering.specs.States.{stateCount, stateAt, failureIn}
 use Rattle.numbering.proofs.Keywords.{within-bytes}
 use Rattle.numbering.proofs.States.{stateAt-empty, stateAt-only-empty, stateAt-state}
 use Rattle.numbering.proofs.Steps.{failureIn-smaller, failureIn-string}
-use Rattle.tables.specs.Layout.{depthAt, labelAt, roomForStates, depthOf}
-use Rattle.tables.specs.Reads.{Whole, depthIn, backIn}
+use Rattle.tables.specs.Layout.{depthAt, labelAt, pieceAt, depthOf}
+use Rattle.tables.specs.Reads.{depthIn, backIn}
 use Rattle.tables.proofs.Fits.{fits}
 use Rattle.tables.proofs.Fast.{depth-few}
-use Rattle.stepping.specs.Held.{HoldsStates, HoldsFailures}
 use Rattle.stepping.proofs.Right.{back-right}
 use Rattle.stepping.proofs.Kept.{states-kept, failures-kept}
 use Rattle.depths.specs.Depths.{depthFor, withDepth, withDepths}
 use Rattle.depths.specs.Right.{Ready}
-use Rattle.depths.proofs.Turns.{depths-further}
 
 module _ (book : Book) (within : Within book) where
   bytes : All Bytes (keywords (book .phrases))
@@ -66,7 +64,7 @@ module _ (book : Book) (within : Within book) where
         let smaller : failureIn book n < n = failureIn-smaller book bytes n p l in
         rw (back, done .depths (failureIn book n) smaller) (omega (arith, depth-more n p l, depth-few book within n l))
       where
-        same : (k : ℕ) → 6688 ≤ k → k < 16930 → getD t k 0 ≡ getD before k 0
+        same : (k : ℕ) → labelAt ≤ k → k < pieceAt → getD t k 0 ≡ getD before k 0
         same k a b = done .kept k (inr (omega (arith, fits book within .states)))
 
         back : backIn t n ≡ failureIn book n

@@ -3,14 +3,13 @@
 use mathlib.Core.Path.{_≡_, refl, sym, ap, _∙_}
 use mathlib.Core.Logic.{_⊎_, inl, inr, ⊎-elim}
 use mathlib.Core.Bool.{Bool, true, false, cond}
-use mathlib.Core.List.{List, [], _∷_}
-use Prim.Native.Nat.{ℕ, zero, suc, _+_, _-_, _%_, _≤_, _<_}
+use mathlib.Core.List.{List}
+use Prim.Native.Nat.{ℕ, zero, suc, _+_, _-_, _≤_, _<_}
 use native.Mathlib.Nat.{le-suc-iff}
 use native.Mathlib.Numerals.{add-one}
 use native.Mathlib.Omega.{arith}
-use lib.ListN.{length, getD, set, length-set}
+use lib.ListN.{length, getD, length-set}
 use lib.Seq.{getD-set-same, getD-set-other}
-use borrow.Author.Tests.{lt-ltb, le-ltb}
 use Rattle.meaning.specs.Books.{Book, keywords}
 use Rattle.meaning.specs.Automaton.{isState, depth, parent}
 use Rattle.meaning.proofs.Depth.{parent-snoc}
@@ -20,10 +19,9 @@ use Rattle.numbering.proofs.Keywords.{within-bytes}
 use Rattle.numbering.proofs.States.{count-some, stateAt-empty}
 use Rattle.numbering.proofs.Children.{firstChild-root, firstChild-end, firstChild-next, firstChild-inside, child-inside, child-snoc}
 use Rattle.tables.specs.Endings.{someIn, endings}
-use Rattle.tables.specs.Layout.{infoAt, outAt, roomForStates, upTo, depthOf, gainOf, endingMark, infoOf}
+use Rattle.tables.specs.Layout.{infoAt, depthAt, roomForStates, depthOf, gainOf, endingMark, infoOf}
 use Rattle.tables.specs.Reads.{Whole, infoIn, depthIn, firstChildIn}
 use Rattle.tables.proofs.Fits.{fits}
-use Rattle.tables.proofs.Fields.{up-to}
 use Rattle.tables.proofs.Fast.{gain-depth, gain-few}
 use Rattle.stepping.specs.Steps.{childrenEndIn}
 use Rattle.stepping.specs.Held.{HoldsStates}
@@ -81,7 +79,7 @@ module _ (book : Book) (within : Within book) (before : List ℕ) (marked : Mark
       info = done .kept (infoAt + n) (inr (omega arith)) ∙ marked .infos n l
 
       deep : (i : ℕ) → i < stateCount book → depthIn t i ≡ depthOf book i
-      deep i k = done .kept (4640 + i) (inr (omega (arith, room))) ∙ marked .depths i k
+      deep i k = done .kept (depthAt + i) (inr (omega (arith, room))) ∙ marked .depths i k
 
   gained-further : (from n : ℕ) (t : List ℕ) → from < stateCount book → n < stateCount book → depthOf book from ≡ depth (isState book) (parent (stateAt book n))
       → Gained n t → Gained (suc n) (withGain t from n)

@@ -1,11 +1,10 @@
 -- First the depths and then the gains: the second pass finds what the first leaves. Assumes nothing.
-use mathlib.Core.Path.{_≡_, refl, sym, ap, _∙_}
+use mathlib.Core.Path.{_≡_, sym, _∙_}
 use mathlib.Core.Logic.{_⊎_, inl, inr, ⊎-elim}
 use mathlib.Core.List.{List}
 use Prim.Native.Nat.{ℕ, _+_, _≤_, _<_}
 use native.Mathlib.Omega.{arith}
-use lib.ListN.{length, getD}
-use borrow.Author.Tests.{le-ltb}
+use lib.ListN.{getD}
 use Rattle.lent.proofs.Cases.{lt-or-le}
 use Rattle.meaning.specs.Books.{Book}
 use Rattle.format.specs.Limits.{Within}
@@ -14,16 +13,12 @@ use Rattle.numbering.proofs.States.{count-some}
 use Rattle.tables.specs.Layout.{infoAt, outAt, depthAt, labelAt, roomForStates, upTo, depthOf, endingMark, infoOf}
 use Rattle.tables.specs.Reads.{infoIn, depthIn}
 use Rattle.tables.proofs.Fits.{fits}
-use Rattle.tables.proofs.Fields.{up-to}
+use Rattle.tables.proofs.Fields.{up-to, up-past}
 use Rattle.stepping.proofs.Kept.{states-kept}
 use Rattle.depths.specs.Depths.{withDepths, withGain, withGainsBelow, filled}
 use Rattle.depths.specs.Right.{Ready, Right}
 use Rattle.depths.proofs.Deep.{Deep, deep-to}
 use Rattle.depths.proofs.Gains.{Marked, Gained, gained-all}
-
-past : (count : ℕ) (value : ℕ → ℕ) (j : ℕ) → count ≤ j → upTo count value j ≡ 0
-unfolding upTo
-past count value j l = rw (le-ltb j count l)
 
 module _ (book : Book) (within : Within book) (before : List ℕ) (ready : Ready book before) where
   abbrev deep : List ℕ
@@ -55,7 +50,7 @@ module _ (book : Book) (within : Within book) (before : List ℕ) (ready : Ready
       depths : (i : ℕ) → i < roomForStates → depthIn after i ≡ upTo (stateCount book) (depthOf book) i
       depths i l = gained .kept (depthAt + i) (inr (omega (arith, fits book within .states))) ∙ ⊎-elim
           (λ (k : i < stateCount book). deepened .depths i k ∙ sym (up-to (stateCount book) (depthOf book) i k))
-          (λ (k : stateCount book ≤ i). deepened .kept (depthAt + i) (inr (omega arith)) ∙ ready .depths i l ∙ sym (past (stateCount book) (depthOf book) i k))
+          (λ (k : stateCount book ≤ i). deepened .kept (depthAt + i) (inr (omega arith)) ∙ ready .depths i l ∙ sym (up-past (stateCount book) (depthOf book) i k))
           (lt-or-le i (stateCount book))
 
       infos : (i : ℕ) → i < roomForStates → infoIn after i ≡ upTo (stateCount book) (infoOf book) i
@@ -63,7 +58,7 @@ module _ (book : Book) (within : Within book) (before : List ℕ) (ready : Ready
           (λ (k : i < stateCount book). gained .infos i k ∙ sym (up-to (stateCount book) (infoOf book) i k))
           (λ (k : stateCount book ≤ i).
           gained .kept (infoAt + i) (inr (omega arith)) ∙ deepened .kept (infoAt + i) (inl (omega arith)) ∙ ready .infos i l
-          ∙ past (stateCount book) (endingMark book) i k ∙ sym (past (stateCount book) (infoOf book) i k))
+          ∙ up-past (stateCount book) (endingMark book) i k ∙ sym (up-past (stateCount book) (infoOf book) i k))
           (lt-or-le i (stateCount book))
 
       kept : (k : ℕ) → (k < infoAt) ⊎ (((outAt ≤ k) × (k < depthAt)) ⊎ (labelAt ≤ k)) → getD after k 0 ≡ getD before k 0

@@ -3,7 +3,7 @@
 use mathlib.Core.Path.{_≡_, refl, sym, ap, _∙_}
 use mathlib.Core.Logic.{_⊎_, inl, inr, ⊎-elim}
 use mathlib.Core.Bool.{Bool, true, false, So, cond, false≢true}
-use mathlib.Core.List.{List, [], _∷_, _++_, List·Memᴰ, List·Memᴰ·head, List·Memᴰ·tail, List·Memᴰ·not-nil, List·Memᴰ·cases-cons, Memᴰ·append-left, Memᴰ·append-right}
+use mathlib.Core.List.{List, [], _∷_, _++_, List·Memᴰ, List·Memᴰ·head, List·Memᴰ·not-nil, List·Memᴰ·cases-cons, Memᴰ·append-left, Memᴰ·append-right}
 use Prim.Native.Nat.{ℕ, zero, suc, min, _+_, _*_, _/_, _≤_, _<_}
 use native.Mathlib.Nat.{le-suc-iff, div-mul-le-self, le-div-iff-mul-le, mul-le-mul-right, mul-le-mul-left, mul-suc}
 use native.Mathlib.Omega.{arith}
@@ -24,7 +24,7 @@ use Rattle.numbering.specs.States.{byteValues, stateCount}
 use Rattle.numbering.proofs.Lists.{choose-append}
 use Rattle.numbering.proofs.States.{count-some}
 use Rattle.tables.specs.Classes.{occurs, occurringBelow, occurring, classOf, classCount}
-use Rattle.tables.specs.Layout.{rowsAt, roomForCells, denseCount, columnOf}
+use Rattle.tables.specs.Layout.{roomForCells, denseCount}
 
 -- What is in a list stands between some elements and the rest.
 split-at : (x : ℕ) (l : List ℕ) → List·Memᴰ x l → (before : List ℕ) × (rest : List ℕ) × (before ++ x ∷ rest ≡ l)

@@ -1,12 +1,12 @@
 -- What is read from the rows, the columns and the depths of a book's tables: a cell has the number of the next state, and depth and gain say
 -- how many failure steps a byte costs. Assumes nothing.
-use mathlib.Core.Path.{_≡_, refl, sym, ap, ap₂, _∙_}
-use mathlib.Core.Bool.{Bool, true, false, So, cond}
+use mathlib.Core.Path.{_≡_, refl, sym, _∙_}
+use mathlib.Core.Bool.{Bool, true, false, cond}
 use mathlib.Core.List.{List, [], _∷_, _++_}
-use Prim.Native.Nat.{ℕ, zero, suc, _+_, _-_, _*_, _/_, _%_, _≤_, _<_}
+use Prim.Native.Nat.{ℕ, suc, _+_, _-_, _*_, _/_, _%_, _≤_, _<_}
 use native.Mathlib.Nat.{mul-add-div, div-eq-of-lt, mul-add-mod-self-left, mod-eq-of-lt}
 use native.Mathlib.Omega.{arith}
-use lib.ListN.{length, getD}
+use lib.ListN.{length}
 use Rattle.meaning.specs.Books.{Book}
 use Rattle.meaning.specs.Automaton.{isState, after, depth, parent}
 use Rattle.meaning.proofs.States.{isState-closed}
@@ -15,12 +15,12 @@ use Rattle.format.specs.Limits.{Within, longestKeyword}
 use Rattle.numbering.specs.States.{byteValues, stateCount, stateAt, numberIn, stepBy}
 use Rattle.numbering.proofs.Keywords.{within-bytes}
 use Rattle.numbering.proofs.States.{number-empty}
-use Rattle.numbering.proofs.Steps.{stepBy-inside, stepBy-string}
+use Rattle.numbering.proofs.Steps.{stepBy-string}
 use Rattle.numbering.proofs.Limits.{stateAt-short}
 use Rattle.tables.specs.Regions.{entryLength, Laid}
 use Rattle.tables.specs.Endings.{someIn, endings}
 use Rattle.tables.specs.Classes.{occurs, occurringBelow, occurring, classOf, classCount}
-use Rattle.tables.specs.Layout.{rowsAt, roomForCells, always, upTo, depthOf, gainOf, endingMark, infoOf, denseCount, columnOf, nextByClass, cellOf, tablesLayout}
+use Rattle.tables.specs.Layout.{always, depthOf, gainOf, endingMark, infoOf, denseCount, columnOf, nextByClass, cellOf, tablesLayout}
 use Rattle.tables.specs.Reads.{infoIn, denseIn, columnIn, cellIn, depthIn, gainIn}
 use Rattle.tables.proofs.Fits.{fits}
 use Rattle.tables.proofs.Parts.{field-at, byte-at}

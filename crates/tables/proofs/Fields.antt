@@ -4,7 +4,7 @@ use mathlib.Core.List.{List}
 use Prim.Native.Nat.{ℕ, _+_, _≤_, _<_}
 use native.Mathlib.Omega.{arith}
 use lib.ListN.{length}
-use borrow.Author.Tests.{lt-ltb}
+use borrow.Author.Tests.{lt-ltb, le-ltb}
 use Rattle.lent.specs.Numbers.{numberAt}
 use Rattle.meaning.specs.Books.{Book}
 use Rattle.format.specs.Limits.{Within}
@@ -22,6 +22,10 @@ use Rattle.tables.proofs.Parts.{field-at, byte-at}
 pub up-to : (count : ℕ) (value : ℕ → ℕ) (j : ℕ) → j < count → upTo count value j ≡ value j
 unfolding upTo
 up-to count value j l = rw (lt-ltb j count l)
+
+pub up-past : (count : ℕ) (value : ℕ → ℕ) (j : ℕ) → count ≤ j → upTo count value j ≡ 0
+unfolding upTo
+up-past count value j l = rw (le-ltb j count l)
 
 module _ (book : Book) (within : Within book) (t : List ℕ) (laid : Laid (tablesLayout book) t) where
   -- ── The tag, the counts and the book's mark ──

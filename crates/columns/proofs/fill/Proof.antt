@@ -1,6 +1,5 @@
 -- The classes are noted, counted and turned into columns, as the definition says.
 -- Assumes nothing.
-use native.Mathlib.Omega.{arith}
 use Rattle.columns.proofs.Turns.{columned-are}
 use borrow.Author.Needs.{needs}
 use Rattle.columns.proofs.fill.Statement.{statement}
