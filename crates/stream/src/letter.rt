@@ -16,7 +16,7 @@ const PART: usize = 4096;
 const MOST_PARTS: usize = 1048576;
 
 // The reports that one call has room for: as many as a book can have phrases, so that a call never lacks room for the next byte.
-const REPORTS: usize = 128;
+const REPORTS: usize = tables::layout::ROOM_FOR_PHRASES;
 
 // A report is two numbers.
 const ROOM: usize = 2 * REPORTS;

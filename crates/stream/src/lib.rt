@@ -16,7 +16,7 @@ mod words;
 
 pub use words::say;
 
-// How a listing ended.
+// How a listing ended: what the caller is told, since what was read and written no contract can say.
 pub enum Ran {
     // the letter was read to its end, and the end line is written
     Listed,
@@ -41,9 +41,9 @@ const LONGEST_BOOK: usize = 65535;
 
 const LENGTH_BYTES: usize = 2;
 
-const TABLES: usize = 49152;
+const TABLES: usize = tables::layout::SIZE;
 
-const RUNNING: usize = 10528;
+const RUNNING: usize = running::layout::SIZE;
 
 // Lists what one descriptor brings: two bytes of book length, high byte first, the book, and the letter to the end. Where the input
 // ends early, the book is what came, and empty if its length is cut.
