@@ -2,9 +2,6 @@
 use crate::due::COST;
 use crate::due::COUNT;
 use crate::due::DUE;
-use crate::due::MOST_NUMBERS;
-use crate::due::NUMBERS;
-use crate::due::due_at;
 use crate::due::sum;
 use crate::lines::CALLS;
 use crate::lines::COUNTS;
@@ -12,19 +9,17 @@ use crate::lines::Spot;
 use crate::lines::TAKEN;
 use crate::lines::add;
 use crate::lines::compare;
-use crate::list::four;
+use crate::room::ROOM;
+use crate::room::UNTOUCHED;
+use crate::room::compare_places;
+use crate::room::compare_rest;
 use scanner::Begun;
 use scanner::Fed;
 
 const RUNNING: usize = 10528;
 
-// Room for 512 reports, and an odd last element.
-const ROOM: usize = 1025;
-
-// What the running memory holds before, and the room before each call.
+// What the running memory holds before.
 const OLD: u8 = 0xAA;
-
-const UNTOUCHED: u32 = 4294967295;
 
 // How a letter is fed. The way says in which parts it is offered, whole (0), byte by byte (1) or in two (2), with the least room,
 // and 3 more with a larger one. Then come the phrases of the book, by how many numbers the room is larger, and where the letter is
@@ -119,94 +114,6 @@ fn slots_of(feeding: Feeding) -> usize {
         return std::num::wrapping_add_usize(least, feeding.more % 2);
     }
     std::num::wrapping_add_usize(least, feeding.more)
-}
-
-// ── The room ──
-
-fn in_room(room: &[u32; ROOM], at: usize) -> u64 {
-    if at >= ROOM {
-        return 0;
-    }
-    four(room[at])
-}
-
-fn compare_report(
-    counts: &mut [u64; COUNTS],
-    spot: Spot,
-    room: &[u32; ROOM],
-    slot: usize,
-    number: u64,
-    place: usize,
-) {
-    compare(counts, spot, b" phrase", number, in_room(room, slot));
-    let second = std::num::wrapping_add_usize(slot, 1);
-    compare(counts, spot, b" place", place as u64, in_room(room, second));
-}
-
-// The reports of one place; answers where the next ones begin.
-fn compare_place(
-    counts: &mut [u64; COUNTS],
-    spot: Spot,
-    due: &[u64; DUE],
-    room: &[u32; ROOM],
-    slot: usize,
-    place: usize,
-) -> usize {
-    let mut next = slot;
-    let mut i = 0usize;
-    while i < MOST_NUMBERS {
-        if i as u64 >= due_at(due, place, COUNT) {
-            return next;
-        }
-        compare_report(
-            counts,
-            spot,
-            room,
-            next,
-            due_at(due, place, NUMBERS + i),
-            place,
-        );
-        next = std::num::wrapping_add_usize(next, 2);
-        i += 1;
-    }
-    next
-}
-
-fn compare_places(
-    counts: &mut [u64; COUNTS],
-    spot: Spot,
-    due: &[u64; DUE],
-    room: &[u32; ROOM],
-    upto: usize,
-) -> usize {
-    let mut slot = 0;
-    let mut place = spot.after;
-    while place < upto {
-        place += 1;
-        slot = compare_place(counts, spot, due, room, slot, place);
-    }
-    slot
-}
-
-// Room past the reports is unchanged.
-fn compare_rest(
-    counts: &mut [u64; COUNTS],
-    spot: Spot,
-    room: &[u32; ROOM],
-    first: usize,
-    slots: usize,
-) {
-    let mut slot = first;
-    while slot < slots {
-        compare(
-            counts,
-            spot,
-            b" room past the reports",
-            four(UNTOUCHED),
-            in_room(room, slot),
-        );
-        slot += 1;
-    }
 }
 
 // ── One call ──

@@ -7,6 +7,7 @@ mod due;
 mod lines;
 mod list;
 mod matcher;
+mod room;
 mod steps;
 mod written;
 

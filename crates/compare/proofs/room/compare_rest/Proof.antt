@@ -2,8 +2,8 @@
 -- Assumes nothing.
 use Prim.Native.Nat.{_≤_, _-_}
 use borrow.Author.Needs.{needs}
-use Rattle.compare.proofs.calls.compare_rest.Statement.{statement}
-use Rattle.compare.proofs.calls.compare_rest.Tie as tie
+use Rattle.compare.proofs.room.compare_rest.Statement.{statement}
+use Rattle.compare.proofs.room.compare_rest.Tie as tie
 
 abbrev Inv-loop : tie.InvT-loop
 Inv-loop counts₀ spot room first slots slot₀ t7 counts slot = first ≤ slot

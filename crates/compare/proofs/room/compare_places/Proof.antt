@@ -2,8 +2,8 @@
 -- Assumes nothing.
 use Prim.Native.Nat.{_≤_, _-_}
 use borrow.Author.Needs.{needs}
-use Rattle.compare.proofs.calls.compare_places.Statement.{statement}
-use Rattle.compare.proofs.calls.compare_places.Tie as tie
+use Rattle.compare.proofs.room.compare_places.Statement.{statement}
+use Rattle.compare.proofs.room.compare_places.Tie as tie
 
 abbrev Inv-loop : tie.InvT-loop
 Inv-loop counts₀ spot due room upto slot₀ place₀ counts slot place = place₀ ≤ place

@@ -2,8 +2,8 @@
 -- Assumes nothing.
 use Prim.Native.Nat.{_≤_, _-_}
 use borrow.Author.Needs.{needs}
-use Rattle.compare.proofs.calls.compare_place.Statement.{statement}
-use Rattle.compare.proofs.calls.compare_place.Tie as tie
+use Rattle.compare.proofs.room.compare_place.Statement.{statement}
+use Rattle.compare.proofs.room.compare_place.Tie as tie
 
 abbrev Inv-loop : tie.InvT-loop
 Inv-loop counts₀ spot due room slot place next₀ i₀ counts next i = i ≤ 8
