@@ -4,6 +4,5 @@ use libc::STDIN_FILENO;
 use libc::STDOUT_FILENO;
 
 fn main() {
-    let ran = stream::list(STDIN_FILENO, STDOUT_FILENO);
-    stream::say(ran, STDERR_FILENO);
+    stream::list(STDIN_FILENO, STDOUT_FILENO, STDERR_FILENO);
 }

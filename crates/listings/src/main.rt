@@ -18,8 +18,7 @@ fn heading(name: &[u8]) {
 // Lists a file to a descriptor.
 fn listed_to(name: &[u8], to: i32) {
     let file = os::open_read(name);
-    let ran = stream::list(file, to);
-    stream::say(ran, STDOUT_FILENO);
+    stream::list(file, to, STDOUT_FILENO);
     libc::close(file);
 }
 
@@ -32,8 +31,7 @@ fn listed(name: &[u8]) {
 fn two(book_name: &[u8], letter_name: &[u8]) {
     let book = os::open_read(book_name);
     let letter = os::open_read(letter_name);
-    let ran = stream::list_two(book, letter, STDOUT_FILENO);
-    stream::say(ran, STDOUT_FILENO);
+    stream::list_two(book, letter, STDOUT_FILENO, STDOUT_FILENO);
     libc::close(book);
     libc::close(letter);
 }

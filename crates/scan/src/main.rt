@@ -20,8 +20,7 @@ fn opened(argument: usize) -> i32 {
 }
 
 fn list(book: i32, letter: i32) {
-    let ran = stream::list_two(book, letter, STDOUT_FILENO);
-    stream::say(ran, STDERR_FILENO);
+    stream::list_two(book, letter, STDOUT_FILENO, STDERR_FILENO);
 }
 
 fn main() {

@@ -8,13 +8,12 @@ use parts::Opened;
 use reading::Brought;
 use reading::fill;
 use totals::Totals;
+use words::say;
 
 mod letter;
 mod reading;
 mod totals;
 mod words;
-
-pub use words::say;
 
 // How a listing ended: what the caller is told, since what was read and written no contract can say.
 pub enum Ran {
@@ -45,9 +44,19 @@ const TABLES: usize = tables::layout::SIZE;
 
 const RUNNING: usize = running::layout::SIZE;
 
-// Lists what one descriptor brings: two bytes of book length, high byte first, the book, and the letter to the end. Where the input
-// ends early, the book is what came, and empty if its length is cut.
-pub fn list(from: i32, to: i32) -> Ran {
+// Lists what one descriptor brings, and says to `told` how the listing ended.
+pub fn list(from: i32, to: i32, told: i32) {
+    say(list_one(from, to), told);
+}
+
+// Lists a book and a letter that come from two descriptors, each to its end, and says to `told` how the listing ended.
+pub fn list_two(book_from: i32, letter_from: i32, to: i32, told: i32) {
+    say(list_both(book_from, letter_from, to), told);
+}
+
+// Two bytes of book length, high byte first, the book, and the letter to the end. Where the input ends early, the book is what came, and
+// empty if its length is cut.
+fn list_one(from: i32, to: i32) -> Ran {
     let mut length = [0u8; LENGTH_BYTES];
     let brought = fill(from, &mut length);
     match brought {
@@ -75,8 +84,8 @@ fn list_filled(book: &mut [u8], from: i32, to: i32) -> Ran {
     }
 }
 
-// Lists a book and a letter that come from two descriptors, each to its end.
-pub fn list_two(book_from: i32, letter_from: i32, to: i32) -> Ran {
+// The book and the letter, each from a descriptor of its own.
+fn list_both(book_from: i32, letter_from: i32, to: i32) -> Ran {
     let mut book = [0u8; LONGEST_BOOK + 1];
     let brought = fill(book_from, &mut book);
     match brought {

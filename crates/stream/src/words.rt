@@ -2,7 +2,7 @@
 use crate::Ran;
 
 // Writes the sentence of a listing's end. The commands in bin/ tell by it how to end themselves, for a program has no status of its own.
-pub fn say(ran: Ran, to: i32) {
+pub(crate) fn say(ran: Ran, to: i32) {
     match ran {
         Ran::Listed => text(to, b"the letter is listed to its end\n"),
         Ran::BookRefused => text(to, b"the book is refused, and the letter was not read\n"),

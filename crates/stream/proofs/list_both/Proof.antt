@@ -4,8 +4,8 @@ use mathlib.Core.Path.{sym}
 use lib.Seq.{length-take-le}
 use native.Mathlib.Omega.{arith}
 use borrow.Author.Needs.{needs}
-use Rattle.stream.proofs.list_two.Statement.{statement}
-use Rattle.stream.proofs.list_two.Tie as tie
+use Rattle.stream.proofs.list_both.Statement.{statement}
+use Rattle.stream.proofs.list_both.Tie as tie
 
 slice-aggregate-fill : tie.Need-slice-aggregate-fill
 slice-aggregate-fill c = search needs
@@ -40,8 +40,8 @@ returns-2 c = search needs
 returns-3 : tie.Need-returns-3
 returns-3 c = search needs
 
-pub list-two-spec : {M : Type 1} → statement M
-list-two-spec =
+pub list-both-spec : {M : Type 1} → statement M
+list-both-spec =
     tie.close
     (tie.spec
     slice-aggregate-fill
