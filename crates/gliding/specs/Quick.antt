@@ -10,7 +10,7 @@ use Rattle.stepping.specs.Steps.{childByIn}
 abbrev pub lastColumn : ℕ → ℕ
 lastColumn dense = 49152 - 2 * dense
 
--- A byte has a column where a cell for each dense state fits.
+-- A byte has a column where a cell for each dense state fits. A number that is no byte has none.
 unfoldable pub hasColumn : List ℕ → ℕ → ℕ → Bool
 hasColumn t dense byte = ltb byte 256 && leb (columnIn t byte) (lastColumn dense)
 
