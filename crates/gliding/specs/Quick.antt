@@ -14,7 +14,7 @@ lastColumn dense = 49152 - 2 * dense
 abbrev pub columnFor : List ℕ → ℕ → ℕ
 columnFor t byte = columnIn t byte
 
--- A byte has a column where a cell for each dense state fits.
+-- A byte has a column where a cell for each dense state fits. A number that is no byte has none.
 unfoldable pub hasColumn : List ℕ → ℕ → ℕ → Bool
 hasColumn t dense byte = ltb byte 256 && leb (columnFor t byte) (lastColumn dense)
 

@@ -81,6 +81,7 @@ fn go_on(t: &[u8], m: &[u8], states: usize, dense: usize, from: Going, byte: u8)
     }
 }
 
+// The way, with the state of the index.
 fn way_to(going: Going) -> Way
     requires { ⌜ going .index < roomForStates ⌝ }
     ensures { λ r. ⌜ glideOf r ≡ goingOf going ⌝ }
