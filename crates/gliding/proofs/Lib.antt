@@ -3,3 +3,4 @@ pub mod Quiet
 pub mod Turns
 pub mod Agree
 pub mod Laid
+pub mod Foreseen

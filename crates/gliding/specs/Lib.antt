@@ -1,3 +1,4 @@
 pub mod Quick
 pub mod Glide
 pub mod Going
+pub mod Foreseen

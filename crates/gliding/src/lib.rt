@@ -10,10 +10,12 @@ ghost use Rattle.gliding.specs.Glide.{quietAt, oneOn, glideIn, goneBy, g
 ghost use Rattle.gliding.specs.Going.{goneTo, goingOf, GoReady, GoKept};
 use counters::Place;
 use counters::State;
-use quick::sought;
 use running::layout::FLAG;
 
 mod quick; // quick.rt: the quick next state
+
+pub use quick::sought;
+pub use quick::state_at;
 
 // How far the bytes of a part have been taken: the state, the place, how many bytes, and the sum of the gains; and whether
 // what happens at the last of them is still to be done.
