@@ -1,9 +1,10 @@
-//! The whole listing of a letter through bin/list, beside feed.
+//! The whole listing of a letter through program `list`, beside feed.
 use crate::book::Book;
 use crate::timing::{median, programs_seconds, speed, PASSES};
+use std::env;
 use std::fs::{self, File};
-use std::path::Path;
-use std::process::Command;
+use std::path::{Path, PathBuf};
+use std::process::{Command, Stdio};
 use std::time::Instant;
 use tsuvrankhe::{Scanner, Tables};
 
@@ -19,41 +20,35 @@ fn end_line(book: &[u8], letter: &[u8]) -> String {
     )
 }
 
-/// One pass of bin/list from a file into a file: seconds of processor time, and by the clock on the wall.
+/// One pass of the program from a file into a file: seconds of processor time, and by the clock on the wall.
 fn pass(list: &Path, input: &Path, output: &Path) -> (f64, f64) {
     let mut command = Command::new(list);
     command
         .stdin(File::open(input).unwrap())
-        .stdout(File::create(output).unwrap());
+        .stdout(File::create(output).unwrap())
+        .stderr(Stdio::null());
     let (before, started) = (programs_seconds(), Instant::now());
-    assert!(command.status().unwrap().success(), "bin/list");
+    assert!(command.status().unwrap().success(), "{}", list.display());
     (programs_seconds() - before, started.elapsed().as_secs_f64())
 }
 
-/// Lists the letter through bin/list and says how that compares with feed's speed, which is one of processor time.
+/// Lists the letter and says how that compares with feed's speed; both are speeds of processor time.
 pub fn measure(book: &Book, letter: &[u8], feed: f64) {
-    let top = Path::new(env!("CARGO_MANIFEST_DIR")).join("..");
-    let list = top.join("bin/list");
-    if !list.is_file() {
-        println!("listing: not measured, there is no bin/list yet");
+    let Some(list) = env::var_os("TSUVRANKHE_LIST").map(PathBuf::from) else {
+        println!("listing: not measured, TSUVRANKHE_LIST names no program (bin/bench sets it)");
         return;
-    }
-    let folder = top.join("target/bench");
+    };
+    let folder = Path::new(env!("CARGO_MANIFEST_DIR")).join("../target/bench");
     fs::create_dir_all(&folder).unwrap();
     let (input, output) = (folder.join("listing.in"), folder.join("listing.out"));
     let book = book.written();
     let length = (book.len() as u16).to_be_bytes();
     fs::write(&input, [&length, &book[..], letter].concat()).unwrap();
-    // The first pass may have to make the program.
-    pass(&list, &input, &output);
-    let first = pass(&list, &input, &output);
+    let times: Vec<(f64, f64)> = (0..PASSES).map(|_| pass(&list, &input, &output)).collect();
     let written = fs::read_to_string(&output).unwrap();
     let end = end_line(&book, letter);
     assert_eq!(written.lines().last(), Some(&end[..]), "the listing's end");
 
-    // A listing under an emulator takes long and says nothing about speed: one more pass is enough.
-    let passes = if first.0 < 5.0 { PASSES } else { 1 };
-    let times: Vec<(f64, f64)> = (0..passes).map(|_| pass(&list, &input, &output)).collect();
     let listed = speed(
         letter.len(),
         median(times.iter().map(|time| time.0).collect()),
@@ -64,10 +59,5 @@ pub fn measure(book: &Book, letter: &[u8], feed: f64) {
     );
     let part = listed / feed;
     println!("listing: {} bytes, {listed:.1} MB/s, {part:.2} of feed's {feed:.1}; by the wall {by_the_wall:.1} MB/s", letter.len());
-    if !cfg!(target_arch = "x86_64") {
-        println!(
-            "listing: bin/list is an x86-64 program, so that this is no speed of this machine"
-        );
-    }
     fs::remove_dir_all(&folder).unwrap();
 }

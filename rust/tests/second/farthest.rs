@@ -5,6 +5,7 @@
 use crate::book::{piece, within, Book, ANYWHERE};
 use crate::expected::Expected;
 use crate::library::{self, Fed, DONE, TOO_LONG};
+use std::env;
 use std::io::{BufRead, BufReader, Read, Write};
 use std::path::{Path, PathBuf};
 use std::process::{Child, Command, Stdio};
@@ -181,14 +182,12 @@ fn reports_past_32_bits() {
     println!("{place} bytes, {reports} reports, {steps} steps");
 }
 
-/// The listing program, if the repository has it yet.
-fn list() -> Option<PathBuf> {
-    let list = Path::new(env!("CARGO_MANIFEST_DIR")).join("../bin/list");
-    if !list.is_file() {
-        println!("skipped: there is no bin/list yet");
-        return None;
-    }
-    Some(list)
+/// The listing program: the one that TSUVRANKHE_LIST names, as that of tools/native-list, or else bin/list.
+fn list() -> PathBuf {
+    env::var_os("TSUVRANKHE_LIST").map_or_else(
+        || Path::new(env!("CARGO_MANIFEST_DIR")).join("../bin/list"),
+        PathBuf::from,
+    )
 }
 
 /// Starts the listing with this book and a letter that is the block again and again, up to so many bytes.
@@ -220,10 +219,7 @@ fn listing(list: &Path, book: &Book, block: Vec<u8>, length: u64) -> Child {
 
 /// Compares the listing of a letter of so many bytes with its hits up to `heard` bytes and with the line that ends it.
 fn compare_listing(length: u64, heard: u64, last: impl Fn(u64, u64) -> String) {
-    let list = match list() {
-        Some(list) => list,
-        None => return,
-    };
+    let list = list();
     let (book, block) = (far_book(), block());
     let blocks = brings(&book, &block);
     let mut child = listing(&list, &book, block.clone(), length);
@@ -283,12 +279,8 @@ fn the_listing_of_one_byte_more() {
 #[test]
 #[ignore = "writes 120 GB of lines into a pipe: many minutes"]
 fn the_listing_counts_hits_past_32_bits() {
-    let list = match list() {
-        Some(list) => list,
-        None => return,
-    };
     let length = (1 << 25) + 1;
-    let mut child = listing(&list, &all_end_at_a(), vec![b'a'; BLOCK], length);
+    let mut child = listing(&list(), &all_end_at_a(), vec![b'a'; BLOCK], length);
     let mut output = child.stdout.take().unwrap();
     let mut bytes = vec![0; 1 << 20];
     let (mut lines, mut tail) = (0_u64, Vec::new());
