@@ -10,9 +10,10 @@ use native.Mathlib.Omega.{arith}
 use lib.ListN.{length, take, drop, length-take, length-drop}
 use lib.Seq.{take-length}
 use borrow.Author.Tests.{lt-ltb, le-ltb, le-leb, lt-leb}
+use Rattle.meaning.specs.Calls.{largestPlace}
 use Rattle.lent.proofs.Cases.{lt-or-le}
 use Rattle.meaning.specs.Books.{Book}
-use Rattle.listing.specs.Listing.{partLength, largestPlace, outcome, offeredFrom, offered, wholeParts, wholeLetter, cutLetter, letterLines}
+use Rattle.listing.specs.Listing.{partLength, outcome, offeredFrom, offered, wholeParts, wholeLetter, cutLetter, letterLines}
 
 module _ (parts taken : ℕ) (rest : List ℕ) where
   abbrev after : ℕ

@@ -5,6 +5,7 @@ use mathlib.Core.List.{List, [], _∷_, _++_}
 use Prim.Native.Nat.{ℕ, zero, suc, _+_, _*_, _/_}
 use lib.Dec.{eqb, ltb, leb}
 use lib.ListN.{length, take, drop}
+use Rattle.meaning.specs.Calls.{largestPlace}
 use Rattle.meaning.specs.Books.{Phrase, Book}
 use Rattle.meaning.specs.Reports.{Report, reports}
 use Rattle.meaning.specs.Automaton.{steps}
@@ -32,10 +33,6 @@ letterIn (high ∷ low ∷ rest) = drop (256 * high + low) rest
 -- The letter is offered in parts of 4,096 bytes, the last one shorter.
 abbrev pub partLength : ℕ
 partLength = 4096
-
--- The largest place: feed refuses a part that would pass it.
-abbrev pub largestPlace : ℕ
-largestPlace = 4294967295
 
 -- How a letter went: the bytes taken of it, and whether a part was refused with 11.
 pub record Offered : Type 0 where

@@ -11,6 +11,10 @@ use Rattle.meaning.specs.Books.{Book}
 use Rattle.meaning.specs.Reports.{Report, reportsAt}
 use Rattle.meaning.specs.Automaton.{isState, after, stepsFor}
 
+-- The largest place: a letter has at most so many bytes.
+abbrev pub largestPlace : ℕ
+largestPlace = 4294967295
+
 -- The reports that end in the bytes y, when they are read after the bytes x.
 unfoldable pub reportsAfter : Book → List ℕ → List ℕ → List Report
 unfolding reportsAt

@@ -10,7 +10,7 @@ use Rattle.lent.specs.Numbers.{withBytes}
 use Rattle.lent.proofs.Bytes.{byte-written}
 use Rattle.meaning.specs.Books.{Book}
 use Rattle.meaning.specs.Reports.{Report}
-use Rattle.meaning.specs.Calls.{takes, fed, reportsAfter, stepsAfter}
+use Rattle.meaning.specs.Calls.{largestPlace, takes, fed, reportsAfter, stepsAfter}
 use Rattle.meaning.proofs.Taking.{takes-is, takes-fits}
 use Rattle.tracking.specs.Reports.{inRoom}
 use Rattle.feeding.proofs.Reports.{length-inRoom}
@@ -22,7 +22,7 @@ use Rattle.scanner.specs.declared.Fed.the-variants as answers
 use Rattle.scanner.proofs.Feeds.{feed-means}
 use Rattle.listing.specs.Lines.{longestLine}
 use Rattle.listing.specs.Writing.{Left, left}
-use Rattle.listing.specs.Listing.{largestPlace, hitLines}
+use Rattle.listing.specs.Listing.{hitLines}
 use Rattle.listing.proofs.Whole.{first-bytes}
 use Rattle.parts.specs.Answers.{listedEnd}
 use Rattle.parts.specs.Exact.{ListEnd, hitsOf, tookWith, listedAs, listOf}

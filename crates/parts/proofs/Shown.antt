@@ -12,14 +12,14 @@ use Rattle.lent.proofs.Bytes.{with-bytes-split, length-withBytes}
 use Rattle.meaning.specs.Books.{Phrase, Book}
 use Rattle.meaning.specs.Reports.{Report, reportOf, choose, reportsAt}
 use Rattle.meaning.specs.Matching.{matches}
-use Rattle.meaning.specs.Calls.{reportsAfter}
+use Rattle.meaning.specs.Calls.{largestPlace, reportsAfter}
 use Rattle.format.specs.Limits.{All, PhraseWithin, Within}
 use Rattle.format.proofs.Lists.{all-append}
 use Rattle.tracking.specs.Reports.{inRoom}
 use Rattle.scanner.specs.Meant.{TablesOf}
 use Rattle.listing.specs.Lines.{hitLine, longestLine}
 use Rattle.listing.specs.Writing.{left}
-use Rattle.listing.specs.Listing.{largestPlace, rightsOf, hitLines}
+use Rattle.listing.specs.Listing.{rightsOf, hitLines}
 use Rattle.listing.proofs.Whole.{line-fits}
 use Rattle.listing.proofs.Lengths.{hit-line-most}
 use Rattle.parts.specs.Hits.{numberIn, hitWritten, hitsWritten}

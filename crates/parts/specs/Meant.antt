@@ -5,13 +5,13 @@ use mathlib.Core.List.{List, [], _++_}
 use Prim.Native.Nat.{ℕ, _+_, _*_, _/_, _≤_, _<_}
 use lib.ListN.{length, take}
 use Rattle.meaning.specs.Books.{Book}
-use Rattle.meaning.specs.Calls.{takes, reportsAfter, stepsAfter}
+use Rattle.meaning.specs.Calls.{largestPlace, takes, reportsAfter, stepsAfter}
 use Rattle.format.specs.Refusals.{Refusal, numberOf}
 use Rattle.format.specs.Judged.{Judgement, accepted, refused}
 use Rattle.scanner.specs.Meant.{TablesOf, RunningOf}
 use Rattle.listing.specs.Lines.{bookLine, refusedLine, letterLine, longestLine}
 use Rattle.listing.specs.Writing.{Left}
-use Rattle.listing.specs.Listing.{largestPlace, hitLines, lastLines}
+use Rattle.listing.specs.Listing.{hitLines, lastLines}
 use Rattle.parts.specs.Answers.{openedEnd, listedEnd}
 use Rattle.parts.specs.Exact.{OpenEnd, ListEnd}
 use Rattle.parts.specs.declared.Opened.the-variants as opened

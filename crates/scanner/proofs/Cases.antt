@@ -7,6 +7,7 @@ use Prim.Native.Nat.{ℕ, _-_, _/_, _≤_, _<_}
 use native.Mathlib.Omega.{arith}
 use lib.ListN.{length}
 use borrow.Author.Tests.{lt-ltb, le-ltb}
+use Rattle.meaning.specs.Calls.{largestPlace}
 use Rattle.tables.specs.Reads.{phraseCountIn}
 use Rattle.tables.specs.Passing.{tablesPass}
 use Rattle.tables.proofs.Passing as tables
@@ -14,7 +15,7 @@ use Rattle.tracking.specs.Head.{begunWith}
 use Rattle.feeding.specs.declared.Progress.{Progress}
 use Rattle.feeding.specs.Taken.{atStart, runOf, partTaken, stepsSince}
 use Rattle.feeding.specs.Ready.{Ready}
-use Rattle.scanner.specs.Passing.{largestPlace, stateHeld, placeHeld, tooSmall, runningPass}
+use Rattle.scanner.specs.Passing.{stateHeld, placeHeld, tooSmall, runningPass}
 use Rattle.scanner.specs.Exact.{begunWell, beginOf, answerAfter, memoryAfter, tookFrom, feedOf}
 use Rattle.scanner.specs.declared.Begun.the-variants as begun
 use Rattle.scanner.specs.declared.Fed.the-variants as fed

@@ -12,7 +12,7 @@ use Rattle.lent.specs.Numbers.{Bytes, withNumber}
 use Rattle.lent.proofs.Numbers.{length-withNumber, number-byte-apart, number-bytes-kept}
 use Rattle.meaning.specs.Books.{Book}
 use Rattle.meaning.specs.Automaton.{isState, after}
-use Rattle.meaning.specs.Calls.{takes, fed}
+use Rattle.meaning.specs.Calls.{largestPlace, takes, fed}
 use Rattle.meaning.proofs.States.{isState-closed}
 use Rattle.meaning.proofs.After.{after-state}
 use Rattle.numbering.specs.States.{numberIn}
@@ -36,7 +36,7 @@ use Rattle.feeding.specs.Taken.{Run, atStart, partTaken}
 use Rattle.feeding.specs.Right.{Stands, Came}
 use Rattle.feeding.proofs.Right.{part-right, steps-right}
 use Rattle.scanner.specs.Answers.{Said, said}
-use Rattle.scanner.specs.Passing.{largestPlace, tooSmall, runningPass}
+use Rattle.scanner.specs.Passing.{tooSmall, runningPass}
 use Rattle.scanner.specs.Exact.{FeedEnd, memoryAfter, tookFrom, feedOf}
 use Rattle.scanner.specs.Meant.{TablesOf, RunningOf, PastKept, FeedDone, FeedRight}
 use Rattle.scanner.specs.Promised.{FeedPromise}

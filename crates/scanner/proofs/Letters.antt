@@ -15,7 +15,7 @@ use Rattle.lent.proofs.Cases.{lt-or-le}
 use Rattle.meaning.specs.Books.{Book}
 use Rattle.meaning.specs.Reports.{Report, reports}
 use Rattle.meaning.specs.Automaton.{steps}
-use Rattle.meaning.specs.Calls.{reportsAfter, stepsAfter, fed}
+use Rattle.meaning.specs.Calls.{largestPlace, reportsAfter, stepsAfter, fed}
 use Rattle.meaning.proofs.Cuts.{reports-cut, steps-cut, reportsAfter-cut, stepsAfter-cut}
 use Rattle.meaning.proofs.Depth.{steps-at-most}
 use Rattle.meaning.proofs.Taking.{takes-fits}
@@ -23,7 +23,6 @@ use Rattle.running.specs.Layout.{runningSize}
 use Rattle.tracking.specs.Reports.{inRoom}
 use Rattle.feeding.proofs.Reports.{length-inRoom, inRoom-append}
 use Rattle.scanner.specs.Answers.{Said, said}
-use Rattle.scanner.specs.Passing.{largestPlace}
 use Rattle.scanner.specs.Exact.{beginOf, FeedEnd, feedOf}
 use Rattle.scanner.specs.Meant.{TablesOf, RunningOf, FeedRefused, FeedDone, FeedRight}
 use Rattle.scanner.specs.Letters.{Call, Came, feedsOf, GoesOn, LetterRead}

@@ -12,11 +12,10 @@ use lib.ListN.{length, take, getD}
 use lib.Seq.{ext-getD}
 use Rattle.lent.proofs.Cases.{lt-or-le}
 use Rattle.meaning.specs.Books.{Book}
-use Rattle.meaning.specs.Calls.{fed}
+use Rattle.meaning.specs.Calls.{largestPlace, fed}
 use Rattle.running.specs.Layout.{runningSize}
 use Rattle.running.proofs.Held.{running-once}
 use Rattle.scanner.specs.Answers.{begunNumber, Said, said}
-use Rattle.scanner.specs.Passing.{largestPlace}
 use Rattle.scanner.specs.Exact.{BeginEnd, FeedEnd}
 use Rattle.scanner.specs.Meant.{RunningOf, PastKept, BeginDone, FeedRefused, FeedDone, FeedRight}
 use Rattle.scanner.specs.Promised.{BeginPromise, FeedPromise}

@@ -10,6 +10,7 @@ use native.Mathlib.Omega.{arith}
 use lib.Dec.{ltb, eqb}
 use lib.ListN.{length, getD}
 use borrow.Author.Tests.{lt-ltb, le-ltb, le-leb, lt-leb, eq-eqb, ne-eqb, ltb-true, ltb-false, leb-true, eqb-true}
+use Rattle.meaning.specs.Calls.{largestPlace}
 use Rattle.lent.proofs.Cases.{lt-or-le}
 use Rattle.meaning.proofs.Truth.{untrue}
 use Rattle.tables.specs.Layout.{tablesSize}
@@ -17,7 +18,7 @@ use Rattle.tables.specs.Reads.{Whole, stateCountIn, markIn}
 use Rattle.tables.proofs.Parts.{number-zero}
 use Rattle.running.specs.Layout.{runningSize, tagAt, runningTag}
 use Rattle.running.specs.Reads.{WholeRunning}
-use Rattle.scanner.specs.Passing.{largestPlace, tagHeld, stateHeld, placeHeld, markHeld, tagAsked, tooSmall, RunningPass, runningPass}
+use Rattle.scanner.specs.Passing.{tagHeld, stateHeld, placeHeld, markHeld, tagAsked, tooSmall, RunningPass, runningPass}
 use Rattle.scanner.specs.Promised.{Small}
 
 -- ── Sizes ──

@@ -7,6 +7,7 @@ use mathlib.Core.List.{List}
 use Prim.Native.Nat.{ℕ, _-_, _/_, _≤_, _<_}
 use native.Mathlib.Omega.{arith}
 use lib.ListN.{length}
+use Rattle.meaning.specs.Calls.{largestPlace}
 use Rattle.lent.proofs.Cases.{lt-or-le}
 use Rattle.tables.specs.Reads.{phraseCountIn}
 use Rattle.tables.specs.Passing.{tablesPass}
@@ -14,7 +15,7 @@ use Rattle.feeding.specs.Taken.{Run, atStart, partTaken}
 use Rattle.feeding.specs.Ready.{Ready}
 use Rattle.feeding.proofs.Rule.{rule-kept}
 use Rattle.scanner.specs.Answers.{said}
-use Rattle.scanner.specs.Passing.{largestPlace, stateHeld, placeHeld, tooSmall, runningPass}
+use Rattle.scanner.specs.Passing.{stateHeld, placeHeld, tooSmall, runningPass}
 use Rattle.scanner.specs.Exact.{FeedEnd, tookFrom, feedOf}
 use Rattle.scanner.specs.Promised.{FollowsRule}
 use Rattle.scanner.specs.declared.Fed.{Fed}

@@ -5,11 +5,12 @@ use mathlib.Core.List.{List}
 use Prim.Native.Nat.{ℕ, _-_, _/_}
 use lib.Dec.{ltb}
 use lib.ListN.{length}
+use Rattle.meaning.specs.Calls.{largestPlace}
 use Rattle.tables.specs.Reads.{phraseCountIn}
 use Rattle.tables.specs.Passing.{tablesPass}
 use Rattle.tracking.specs.Head.{begunWith, movedTo}
 use Rattle.feeding.specs.Taken.{Run, atStart, partTaken, stepsSince}
-use Rattle.scanner.specs.Passing.{largestPlace, stateHeld, placeHeld, tooSmall, runningPass}
+use Rattle.scanner.specs.Passing.{stateHeld, placeHeld, tooSmall, runningPass}
 use Rattle.scanner.specs.declared.Begun.{Begun}
 use Rattle.scanner.specs.declared.Begun.the-variants as begun
 use Rattle.scanner.specs.declared.Fed.{Fed}

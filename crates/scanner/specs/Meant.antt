@@ -5,14 +5,13 @@ use Prim.Native.Nat.{ℕ, _+_, _/_, _≤_, _<_}
 use lib.ListN.{length, take, getD}
 use Rattle.lent.specs.Numbers.{Bytes, withBytes}
 use Rattle.meaning.specs.Books.{Book}
-use Rattle.meaning.specs.Calls.{fed}
+use Rattle.meaning.specs.Calls.{largestPlace, fed}
 use Rattle.format.specs.Limits.{Within}
 use Rattle.tables.specs.Regions.{Laid}
 use Rattle.tables.specs.Layout.{tablesSize, tablesLayout}
 use Rattle.running.specs.Layout.{runningSize, runningLayout}
 use Rattle.tracking.specs.Reports.{inRoom}
 use Rattle.scanner.specs.Answers.{begunNumber, refusal, said}
-use Rattle.scanner.specs.Passing.{largestPlace}
 use Rattle.scanner.specs.Exact.{BeginEnd, FeedEnd}
 
 -- The lent table memory holds the tables of a book within the limits, as build leaves them.

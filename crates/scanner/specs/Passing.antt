@@ -6,14 +6,11 @@ use mathlib.Core.List.{List}
 use Prim.Native.Nat.{ℕ, _≤_, _<_}
 use lib.Dec.{ltb, leb, eqb}
 use lib.ListN.{length}
+use Rattle.meaning.specs.Calls.{largestPlace}
 use Rattle.lent.specs.Numbers.{numberAt}
 use Rattle.tables.specs.Layout.{tablesSize}
 use Rattle.tables.specs.Reads.{stateCountIn, markIn}
 use Rattle.running.specs.Layout.{runningSize, tagAt, stateAt, placeAt, markAt, runningTag}
-
--- The largest place: a letter has at most so many bytes.
-abbrev pub largestPlace : ℕ
-largestPlace = 4294967295
 
 -- ── The head of running memory ──
 

@@ -8,6 +8,7 @@ use native.Mathlib.Omega.{arith}
 use lib.ListN.{length, take, drop, length-append, take-append-drop, length-take, length-drop}
 use lib.Seq.{drop-append-seam, take-append-le, length-take-le, take-add, drop-drop}
 use borrow.Author.Tests.{le-leb, lt-leb}
+use Rattle.meaning.specs.Calls.{largestPlace}
 use Rattle.lent.proofs.Cases.{lt-or-le}
 use Rattle.meaning.specs.Books.{Book}
 use Rattle.meaning.specs.Reports.{reports}
@@ -17,7 +18,7 @@ use Rattle.meaning.proofs.Depth.{steps-at-most}
 use Rattle.format.specs.Limits.{mostPhrases}
 use Rattle.scanner.specs.Meant.{TablesOf, RunningOf}
 use Rattle.listing.specs.Lines.{letterLine, longestLine}
-use Rattle.listing.specs.Listing.{partLength, largestPlace, wholeParts, hitLines, lastLines, wholeLetter, cutLetter, letterLines}
+use Rattle.listing.specs.Listing.{partLength, wholeParts, hitLines, lastLines, wholeLetter, cutLetter, letterLines}
 use Rattle.parts.proofs.Texts.{last-text, too-long-text}
 use Rattle.turns.specs.Turns.{Lent, Totals, noTotals, partBegin, partUsed, remaining, lastText, tooLongText, turnsFrom}
 use Rattle.turns.proofs.Few.{reports-few}

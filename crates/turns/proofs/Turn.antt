@@ -10,13 +10,13 @@ use borrow.Author.Tests.{lt-leb}
 use Rattle.meaning.specs.Books.{Book}
 use Rattle.meaning.specs.Reports.{reports}
 use Rattle.meaning.specs.Automaton.{steps}
-use Rattle.meaning.specs.Calls.{reportsAfter, stepsAfter}
+use Rattle.meaning.specs.Calls.{largestPlace, reportsAfter, stepsAfter}
 use Rattle.meaning.proofs.Cuts.{reports-cut, steps-cut}
 use Rattle.meaning.proofs.Depth.{steps-at-most}
 use Rattle.format.specs.Limits.{mostPhrases}
 use Rattle.scanner.specs.Meant.{TablesOf, RunningOf}
 use Rattle.listing.specs.Lines.{longestLine}
-use Rattle.listing.specs.Listing.{largestPlace, hitLines}
+use Rattle.listing.specs.Listing.{hitLines}
 use Rattle.parts.specs.Answers.{listedTaken, listedHits, listedSteps}
 use Rattle.parts.specs.Exact.{ListEnd, listOf}
 use Rattle.parts.specs.Meant.{listedText, ListTook}

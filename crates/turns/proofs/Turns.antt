@@ -6,12 +6,12 @@ use Prim.Native.Nat.{ℕ, zero, suc, _+_, _*_, _/_, _≤_, _<_}
 use native.Mathlib.Omega.{arith}
 use lib.ListN.{length, take, drop, length-append, take-append-drop, length-take}
 use Rattle.meaning.specs.Books.{Book}
-use Rattle.meaning.specs.Calls.{reportsAfter}
+use Rattle.meaning.specs.Calls.{largestPlace, reportsAfter}
 use Rattle.meaning.proofs.Cuts.{reportsAfter-cut}
 use Rattle.format.specs.Limits.{mostPhrases}
 use Rattle.scanner.specs.Meant.{TablesOf}
 use Rattle.listing.specs.Lines.{longestLine}
-use Rattle.listing.specs.Listing.{largestPlace, hitLines}
+use Rattle.listing.specs.Listing.{hitLines}
 use Rattle.turns.specs.Turns.{Lent, Totals, remaining, turnsFrom}
 use Rattle.turns.proofs.Few.{lines-append}
 use Rattle.turns.proofs.Turn.{Stands, Turned, turn-takes}
