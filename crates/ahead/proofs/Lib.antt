@@ -1,0 +1,4 @@
+pub mod Room
+pub mod Turns
+pub mod Runs
+pub mod Quarters

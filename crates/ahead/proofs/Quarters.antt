@@ -1,0 +1,75 @@
+-- Where each quarter begins in the state in which the one before it ended, the numbers of all four are right.
+-- Assumes nothing.
+use mathlib.Core.Path.{_≡_, refl, sym, ap, ap₂, _∙_}
+use mathlib.Core.List.{List}
+use Prim.Native.Nat.{ℕ, _+_, _*_, _≤_, _<_}
+use native.Mathlib.Omega.{arith}
+use lib.ListN.{length, getD}
+use Rattle.tables.specs.Reads.{stateCountIn}
+use Rattle.gliding.specs.Foreseen.{afterFrom, Looked}
+use Rattle.gliding.proofs.Foreseen.{after-add, after-inside}
+use Rattle.ahead.specs.Ahead.{Listed, Ran, Mended}
+use Rattle.ahead.specs.declared.Cursors.{Cursors}
+use Rattle.ahead.proofs.Turns.{each-quarter}
+
+module _ (t part : List ℕ) where
+  -- A quarter whose numbers are as they were is still listed.
+  pub listed-kept : (from state count k l : ℕ) (ahead after : List ℕ) (quarter other end : ℕ) → k < 4 → (k ≡ l → ⊥) → Listed t part from state count k ahead
+      → Mended t part quarter count l other end ahead after → Listed t part from state count k after
+  listed-kept from state count k l ahead after quarter other end few apart listed mended = record { each = λ j m. mended .others k j few apart ∙ listed .each j m }
+
+  module _ (first quarter count : ℕ) (start end : Cursors) (before after : List ℕ) (ran : Ran t part first quarter count start end before after) where
+    pub ran-second : (Listed t part (first + quarter) (start .second) count 1 after) × (end .second ≡ afterFrom t part (first + quarter) (start .second) count)
+    ran-second =
+        let one : first + 1 * quarter ≡ first + quarter = omega arith in
+        (rw one at (ran .listed 1 (omega arith)), rw one at (ran .ended 1 (omega arith)))
+
+  -- A quarter that is looked up alone ends in one of the states.
+  pub mended-inside : (from quarter k state end : ℕ) (before after : List ℕ) → Mended t part from quarter k state end before after → state < stateCountIn t → end < stateCountIn t
+  mended-inside from quarter k state end before after mended inside = omega (arith, mended .ended, after-inside t part from state quarter inside)
+
+  module _ (first quarter state : ℕ) (start end : Cursors) (a₀ a₁ a₂ a₃ a₄ : List ℕ) (second third fourth : ℕ) (begun : start .first ≡ state)
+      (ran : Ran t part first quarter quarter start end a₀ a₁)
+      (mended₁ : Mended t part (first + quarter) quarter 1 (end .first) second a₁ a₂)
+      (mended₂ : Mended t part (first + 2 * quarter) quarter 2 second third a₂ a₃)
+      (mended₃ : Mended t part (first + 3 * quarter) quarter 3 third fourth a₃ a₄) where
+    -- So many bytes on, and some more.
+    joined : (from at n m o : ℕ) → from ≡ first + m → at ≡ afterFrom t part first state m → o ≡ m + n → afterFrom t part from at n ≡ afterFrom t part first state o
+    joined from at n m o place e sum =
+        ap₂ (λ (p s : ℕ). afterFrom t part p s n) place e ∙ sym (after-add t part first state m n) ∙ ap (afterFrom t part first state) (sym sum)
+
+    ended₁ : end .first ≡ afterFrom t part first state quarter
+    ended₁ = ran .ended 0 (omega arith) ∙ ap₂ (λ (p s : ℕ). afterFrom t part p s quarter) (omega arith) begun
+
+    ended₂ : second ≡ afterFrom t part first state (2 * quarter)
+    ended₂ = mended₁ .ended ∙ joined (first + quarter) (end .first) quarter quarter (2 * quarter) refl ended₁ (omega arith)
+
+    ended₃ : third ≡ afterFrom t part first state (3 * quarter)
+    ended₃ = mended₂ .ended ∙ joined (first + 2 * quarter) second quarter (2 * quarter) (3 * quarter) refl ended₂ (omega arith)
+
+    abbrev Right : ℕ → Type 0
+    Right k = (j : ℕ) → j < quarter → getD a₄ (4 * j + k) 0 ≡ afterFrom t part first state (k * quarter + j + 1)
+
+    right₀ : Right 0
+    right₀ j l =
+        let reach : j + 1 ≡ 0 * quarter + j + 1 = omega arith in
+        let place : first + 0 * quarter ≡ first = omega arith in
+        mended₃ .others 0 j (omega arith) (λ e. omega arith) ∙ mended₂ .others 0 j (omega arith) (λ e. omega arith) ∙ mended₁ .others 0 j (omega arith) (λ e. omega arith)
+        ∙ ran .listed 0 (omega arith) .each j l
+        ∙ ap₂ (λ (p s : ℕ). afterFrom t part p s (j + 1)) place begun ∙ ap (afterFrom t part first state) reach
+
+    right₁ : Right 1
+    right₁ j l =
+        mended₃ .others 1 j (omega arith) (λ e. omega arith) ∙ mended₂ .others 1 j (omega arith) (λ e. omega arith)
+        ∙ mended₁ .listed .each j l ∙ joined (first + quarter) (end .first) (j + 1) quarter (1 * quarter + j + 1) refl ended₁ (omega arith)
+
+    right₂ : Right 2
+    right₂ j l =
+        mended₃ .others 2 j (omega arith) (λ e. omega arith)
+        ∙ mended₂ .listed .each j l ∙ joined (first + 2 * quarter) second (j + 1) (2 * quarter) (2 * quarter + j + 1) refl ended₂ (omega arith)
+
+    right₃ : Right 3
+    right₃ j l = mended₃ .listed .each j l ∙ joined (first + 3 * quarter) third (j + 1) (3 * quarter) (3 * quarter + j + 1) refl ended₃ (omega arith)
+
+    pub looked : (Looked t part first quarter state a₄) × (length a₄ ≡ length a₀)
+    looked = (record { each = λ k j few l. each-quarter Right right₀ right₁ right₂ right₃ k few j l }, mended₃ .long ∙ mended₂ .long ∙ mended₁ .long ∙ ran .long)

@@ -1,0 +1,49 @@
+-- The column is the part of the memory from its place on, and the cell stands in it at twice the number of the state.
+-- Assumes nothing.
+use Prim.Native.Nat.{_-_}
+use native.Mathlib.Omega.{arith}
+use lib.ListN.{length}
+use Rattle.tables.proofs.Cells.{cell-in}
+use borrow.Author.Needs.{needs}
+use Rattle.ahead.proofs.cell_of.Statement.{statement}
+use Rattle.ahead.proofs.cell_of.Tie as tie
+
+column-requires : tie.Need-column-requires
+column-requires c κs = search needs
+
+sub-get2 : tie.Need-sub-get2
+sub-get2 c = search needs
+
+part-get2-start : tie.Need-part-get2-start
+part-get2-start c = search needs
+
+part-get2-end : tie.Need-part-get2-end
+part-get2-end c = search needs
+
+mul-get2 : tie.Need-mul-get2
+mul-get2 c = search needs
+
+get2-requires : tie.Need-get2-requires
+get2-requires c κs = search needs
+
+pair-size-requires : tie.Need-pair-size-requires
+pair-size-requires c κs = search needs
+
+returns : tie.Need-returns
+returns c =
+    let a = c .before .before .before .before .before .args in
+    let column = c .before .before .before .column .result in
+    cc (cell-in (a .t .now) column (a .index) (length (a .t .now) - column) (omega arith))
+
+pub cell-of-spec : {M : Type 1} → statement M
+cell-of-spec =
+    tie.close
+    (tie.spec
+    column-requires
+    sub-get2
+    part-get2-start
+    part-get2-end
+    mul-get2
+    get2-requires
+    pair-size-requires
+    returns)

@@ -1,0 +1,46 @@
+-- What the cursors come to over the last bytes before the quarters is one of the states.
+-- Assumes nothing.
+use native.Mathlib.Omega.{arith}
+use borrow.Author.Needs.{needs}
+use Rattle.ahead.proofs.guessed.Statement.{statement}
+use Rattle.ahead.proofs.guessed.Tie as tie
+
+add-run-four : tie.Need-add-run-four
+add-run-four c = search needs
+
+sub-run-four : tie.Need-sub-run-four
+sub-run-four c = search needs
+
+run-four-requires : tie.Need-run-four-requires
+run-four-requires c κs =
+    let ready = c .before .before .before .before .pre in (
+      record {
+        tables = ready .tables;
+        few-states = ready .few-states;
+        some-dense = ready .some-dense;
+        few-dense = ready .few-dense;
+        columns = ready .columns;
+        within = omega (arith, ready .within, ready .least);
+        room = omega (arith, ready .room, ready .least);
+      },
+      record {
+        first = omega (arith, ready .inside);
+        second = omega (arith, ready .inside);
+        third = omega (arith, ready .inside);
+        fourth = omega (arith, ready .inside);
+      },
+    )
+
+index-requires : tie.Need-index-requires
+index-requires c κs = search needs
+
+same-length : tie.Need-same-length
+same-length c = search needs
+
+returns : tie.Need-returns
+returns c = search needs
+
+pub guessed-spec : {M : Type 1} → statement M
+guessed-spec =
+    tie.close
+    (tie.spec add-run-four sub-run-four run-four-requires index-requires same-length returns)

@@ -1,0 +1,135 @@
+-- Each quarter begins in the state in which the one before it ended, because it is looked up again where it does not.
+-- Assumes nothing.
+use mathlib.Core.Path.{_∙_}
+use Prim.Native.Nat.{_+_, _*_}
+use native.Mathlib.Omega.{arith}
+use Rattle.ahead.proofs.Quarters.{listed-kept, ran-second, mended-inside, looked}
+use borrow.Author.Needs.{needs}
+use Rattle.ahead.proofs.look_ahead.Statement.{statement}
+use Rattle.ahead.proofs.look_ahead.Tie as tie
+
+guessed-requires : tie.Need-guessed-requires
+guessed-requires c κs = search needs
+
+run-four-requires : tie.Need-run-four-requires
+run-four-requires c κs =
+    let ready = c .before .before .before .before .before .before .before .before .pre in
+    let guess = c .before .before .before .guessed in (
+      record {
+        tables = ready .tables;
+        few-states = ready .few-states;
+        some-dense = ready .some-dense;
+        few-dense = ready .few-dense;
+        columns = ready .columns;
+        within = omega (arith, ready .within);
+        room = omega (arith, ready .room, guess .ensures .2);
+      },
+      guess .ensures .1,
+    )
+
+add-mend : tie.Need-add-mend
+add-mend c = search needs
+
+mend-requires : tie.Need-mend-requires
+mend-requires c κs =
+    let ready = c .before .before .before .before .before .before .before .before .before .before .before .before .pre in
+    let a = c .before .before .before .before .before .before .before .before .before .before .before .before .args in
+    let guess = c .before .before .before .before .before .before .before .guessed in
+    let ran = c .before .before .before .run-four .ensures in
+    let second = ran-second (a .t .now) (a .part .now) (a .first) (a .quarter) (a .quarter) _ _ _ _ ran in (
+      record {
+        tables = ready .tables;
+        few-states = ready .few-states;
+        some-dense = ready .some-dense;
+        few-dense = ready .few-dense;
+        quarters = omega arith;
+        inside = ran .inside .first;
+        within = omega (arith, ready .within);
+        room = omega (arith, ready .room, guess .ensures .2, ran .long);
+      },
+      second .0,
+      second .1,
+    )
+
+mul-mend : tie.Need-mul-mend
+mul-mend c = search needs
+
+add-mend-2 : tie.Need-add-mend-2
+add-mend-2 c = search needs
+
+mend-requires-2 : tie.Need-mend-requires-2
+mend-requires-2 c κs =
+    let ready = c .before .before .before .before .before .before .before .before .before .before .before .before .before .before .before .before .pre in
+    let a = c .before .before .before .before .before .before .before .before .before .before .before .before .before .before .before .before .args in
+    let guess = c .before .before .before .before .before .before .before .before .before .before .before .guessed in
+    let ran = c .before .before .before .before .before .before .before .run-four .ensures in
+    let mended = c .before .before .before .mend .ensures in (
+      record {
+        tables = ready .tables;
+        few-states = ready .few-states;
+        some-dense = ready .some-dense;
+        few-dense = ready .few-dense;
+        quarters = omega arith;
+        inside = mended-inside (a .t .now) (a .part .now) _ _ _ _ _ _ _ mended (ran .inside .first);
+        within = omega (arith, ready .within);
+        room = omega (arith, ready .room, guess .ensures .2, ran .long, mended .long);
+      },
+      listed-kept (a .t .now) (a .part .now) (a .first + 2 * a .quarter) _ (a .quarter) 2 1 _ _ _ _ _ (omega arith) (λ e. omega arith) (ran .listed 2 (omega arith)) mended,
+      ran .ended 2 (omega arith),
+    )
+
+mul-mend-2 : tie.Need-mul-mend-2
+mul-mend-2 c = omega (arith, c .before .before .before .before .before .before .before .before .before .before .before .before .before .before .before .before .before .before .before .pre .most)
+
+add-mend-3 : tie.Need-add-mend-3
+add-mend-3 c = omega (arith, c .before .before .before .before .before .before .before .before .before .before .before .before .before .before .before .before .before .before .before .pre .within, c .before .before .before .before .before .before .before .before .before .before .before .before .before .before .before .before .before .before .before .pre .short)
+
+mend-requires-3 : tie.Need-mend-requires-3
+mend-requires-3 c κs =
+    let ready = c .before .before .before .before .before .before .before .before .before .before .before .before .before .before .before .before .before .before .before .before .pre in
+    let a = c .before .before .before .before .before .before .before .before .before .before .before .before .before .before .before .before .before .before .before .before .args in
+    let guess = c .before .before .before .before .before .before .before .before .before .before .before .before .before .before .before .guessed in
+    let ran = c .before .before .before .before .before .before .before .before .before .before .before .run-four .ensures in
+    let mended = c .before .before .before .before .before .before .before .mend .ensures in
+    let again = c .before .before .before .mend2 .ensures in
+    let kept = listed-kept (a .t .now) (a .part .now) (a .first + 3 * a .quarter) _ (a .quarter) 3 1 _ _ _ _ _ (omega arith) (λ e. omega arith) (ran .listed 3 (omega arith)) mended in (
+      record {
+        tables = ready .tables;
+        few-states = ready .few-states;
+        some-dense = ready .some-dense;
+        few-dense = ready .few-dense;
+        quarters = omega arith;
+        inside = mended-inside (a .t .now) (a .part .now) _ _ _ _ _ _ _ again (mended-inside (a .t .now) (a .part .now) _ _ _ _ _ _ _ mended (ran .inside .first));
+        within = omega (arith, ready .within);
+        room = omega (arith, ready .room, guess .ensures .2, ran .long, mended .long, again .long);
+      },
+      listed-kept (a .t .now) (a .part .now) (a .first + 3 * a .quarter) _ (a .quarter) 3 2 _ _ _ _ _ (omega arith) (λ e. omega arith) kept again,
+      ran .ended 3 (omega arith),
+    )
+
+same-length : tie.Need-same-length
+same-length c = search needs
+
+returns : tie.Need-returns
+returns c =
+    let a = c .before .before .before .before .before .before .before .before .before .before .before .before .before .before .before .before .before .before .before .before .before .before .before .args in
+    let guess = c .before .before .before .before .before .before .before .before .before .before .before .before .before .before .before .before .before .before .guessed in
+    let all = looked (a .t .now) (a .part .now) (a .first) (a .quarter) (a .state .0) _ _ _ _ _ _ _ _ _ _ (guess .ensures .0) (c .before .before .before .before .before .before .before .before .before .before .before .before .before .before .run-four .ensures) (c .before .before .before .before .before .before .before .before .before .before .mend .ensures) (c .before .before .before .before .before .before .mend2 .ensures) (c .before .before .mend3 .ensures) in
+    (all .0, all .1 ∙ guess .ensures .2)
+
+pub look-ahead-spec : {M : Type 1} → statement M
+look-ahead-spec =
+    tie.close
+    (tie.spec
+    guessed-requires
+    run-four-requires
+    add-mend
+    mend-requires
+    mul-mend
+    add-mend-2
+    mend-requires-2
+    mul-mend-2
+    add-mend-3
+    mend-requires-3
+    same-length
+    returns)

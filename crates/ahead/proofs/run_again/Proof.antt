@@ -1,0 +1,108 @@
+-- After so many turns the cursor has come so far in its quarter, and so many states of it are listed.
+-- Assumes nothing.
+use mathlib.Core.Path.{_≡_, refl}
+use Prim.Native.Nat.{_-_, _≤_, _<_}
+use native.Mathlib.Omega.{arith}
+use Rattle.tables.specs.Reads.{stateCountIn, denseIn}
+use Rattle.ahead.specs.Ahead.{Mended}
+use Rattle.ahead.proofs.Runs.{mended-none, mended-more}
+use Rattle.ahead.proofs.run_again.Statement.{statement}
+use Rattle.ahead.proofs.run_again.Tie as tie
+
+abbrev Inv-loop : tie.InvT-loop
+Inv-loop t part from quarter k state ahead₀ states dense index₀ i₀ ahead index i = (i ≤ quarter) × (states ≡ stateCountIn t) × (dense ≡ denseIn t) × (index < states) × Mended t part from i k state index ahead₀ ahead
+
+abbrev μ-loop : tie.MeasureT-loop
+μ-loop t part from quarter k state ahead₀ states dense index₀ i₀ ahead index i = quarter - i
+
+state-count-requires : tie.Need-state-count-requires Inv-loop μ-loop
+state-count-requires c κs = c .before .before .before .pre .tables
+
+dense-requires : tie.Need-dense-requires Inv-loop μ-loop
+dense-requires c κs = c .before .before .before .before .pre .tables
+
+loop-holds : tie.Need-loop-holds Inv-loop μ-loop
+loop-holds c =
+    let entry = c .before .before .before .before .before in
+    let a = entry .args in
+    (omega arith, c .before .state-count .ensures .0, c .dense .ensures .0, omega (arith, entry .pre .inside, c .before .state-count .ensures .0), mended-none (a .t .now) (a .part .now) (a .from) (a .k) (a .state) (a .ahead .now))
+
+add-next-of : tie.Need-add-next-of Inv-loop μ-loop
+add-next-of c = omega (arith, c .before .before .before .before .before .before .before .pre .within)
+
+shared-slice-read-next-of : tie.Need-shared-slice-read-next-of Inv-loop μ-loop
+shared-slice-read-next-of c = omega (arith, c .before .before .before .before .before .before .before .before .pre .within)
+
+next-of-requires : tie.Need-next-of-requires Inv-loop μ-loop
+next-of-requires c κs =
+    let ready = c .before .before .before .before .before .before .before .before .pre in
+    let inv = c .before .before .loop .inv in
+    (ready .tables, omega (arith, inv .1, ready .few-states), omega (arith, inv .2, ready .some-dense), omega (arith, inv .1, inv .2, ready .few-dense), inv .3)
+
+cast-ahead : tie.Need-cast-ahead Inv-loop μ-loop
+cast-ahead c = omega (arith, c .next-of .ensures .1, c .before .before .before .loop .inv .1, c .before .before .before .before .before .before .before .before .before .pre .few-states)
+
+mul-ahead : tie.Need-mul-ahead Inv-loop μ-loop
+mul-ahead c = omega arith
+
+add-ahead : tie.Need-add-ahead Inv-loop μ-loop
+add-ahead c = omega (arith, c .before .before .before .before .before .before .before .before .before .pre .quarters)
+
+mul-ahead-2 : tie.Need-mul-ahead-2 Inv-loop μ-loop
+mul-ahead-2 c = omega arith
+
+slice-write-ahead : tie.Need-slice-write-ahead Inv-loop μ-loop
+slice-write-ahead c = omega (arith, c .before .before .before .before .before .before .before .before .before .pre .room, c .before .before .before .before .before .before .before .before .before .pre .quarters, c .before .before .before .loop .inv .4 .long, c .before .before .loop-test .taken)
+
+add-i : tie.Need-add-i Inv-loop μ-loop
+add-i c = omega arith
+
+loop-less : tie.Need-loop-less Inv-loop μ-loop
+loop-less c = omega arith
+
+loop-again : tie.Need-loop-again Inv-loop μ-loop
+loop-again c =
+    let at = c .before .before .before in
+    let entry = c .before .before .before .before .before .before .before .before .before in
+    let a = entry .args in
+    let inv = at .loop .inv in
+    let next = c .next-of in (
+      omega arith,
+      inv .1,
+      inv .2,
+      next .ensures .1,
+      mended-more (a .t .now) (a .part .now) (a .from) (a .k) (a .state) (a .ahead .now) (at .loop .i) _ _ (at .loop .index) (next .result) (at .loop .ahead) _ (inv .1) (inv .2) (entry .pre .quarters) (inv .4)
+          (next .ensures .0) (omega (arith, entry .pre .room, entry .pre .quarters, inv .4 .long, c .before .before .loop-test .taken)) refl,
+    )
+
+same-length : tie.Need-same-length Inv-loop μ-loop
+same-length c = omega (arith, c .before .loop .inv .4 .long)
+
+returns : tie.Need-returns Inv-loop μ-loop
+returns c =
+    let at = c .before in
+    let done : at .loop .i ≡ c .before .before .before .before .before .before .before .args .quarter = omega arith in
+    rw done at (at .loop .inv .4)
+
+pub run-again-spec : {M : Type 1} → statement M
+run-again-spec =
+    tie.close
+    (tie.spec
+    Inv-loop
+    μ-loop
+    state-count-requires
+    dense-requires
+    loop-holds
+    add-next-of
+    shared-slice-read-next-of
+    next-of-requires
+    cast-ahead
+    mul-ahead
+    add-ahead
+    mul-ahead-2
+    slice-write-ahead
+    add-i
+    loop-less
+    loop-again
+    same-length
+    returns)

@@ -1,0 +1,308 @@
+// The states that the bytes of a part lead to, looked up ahead: four cursors go over four quarters side by side, so that the reads of
+// one need not wait for those of another.
+ghost use mathlib.Core.Path.{_≡_};
+ghost use mathlib.Core.Bool.{true, cond};
+ghost use Prim.Native.Nat.{_+_, _*_, _≤_, _<_};
+ghost use lib.Dec.{ltb};
+ghost use lib.ListN.{length};
+ghost use Rattle.tables.specs.Layout.{roomForStates};
+ghost use Rattle.tables.specs.Reads.{Whole, stateCountIn, columnIn, cellIn};
+ghost use Rattle.gliding.specs.Quick.{quickIn};
+ghost use Rattle.gliding.specs.Foreseen.{afterFrom, Looked};
+ghost use Rattle.ahead.specs.Cursors.{Below, TurnReady, Found, Turned, withFour};
+ghost use Rattle.ahead.specs.Ahead.{Listed, RunReady, Ran, AgainReady, Mended, LookReady};
+use counters::State;
+
+mod columns; // columns.rt: whether the columns leave room for all cells
+
+pub use columns::columns_fit;
+
+// How many bytes before its quarter a cursor begins to warm up. No state of a book is longer, so that in the letters of a book it comes to the right one.
+const WARM_UP: usize = 32;
+
+// How many quarters there are: so far from each other stand the numbers of one.
+const QUARTERS: usize = 4;
+
+// Where the four cursors stand: the index of a state each.
+struct Cursors {
+    first: usize,
+    second: usize,
+    third: usize,
+    fourth: usize,
+}
+
+fn all_below(limit: usize, cursors: Cursors) -> bool
+    ensures { λ r. ⌜ (r ≡ true → Below limit cursors) ⌝ }
+{
+    if limit <= cursors.first {
+        return false;
+    }
+    if limit <= cursors.second {
+        return false;
+    }
+    if limit <= cursors.third {
+        return false;
+    }
+    cursors.fourth < limit
+}
+
+// The cell of a dense state in the column of a byte. The column is a part of the memory.
+fn cell_of(t: &[u8], index: usize, byte: u8) -> usize
+    requires { ⌜ (Whole (now t)) × (columnIn (now t) byte + 2 * index + 2 ≤ length (now t)) ⌝ }
+    ensures { λ r. ⌜ r ≡ cellIn (now (t .entry)) (columnIn (now (t .entry)) byte) index ⌝ }
+{
+    let column = tables::column(t, byte);
+    lent::pair_size(lent::get2(&t[column..], 2 * index))
+}
+
+// What is found for the byte of each quarter where all four states are dense: four cells.
+fn four_cells(
+    t: &[u8],
+    states: usize,
+    dense: usize,
+    part: &[u8],
+    at: usize,
+    quarter: usize,
+    from: Cursors,
+) -> Cursors
+    requires { ⌜ (TurnReady (now t) (now part) states dense at quarter from) × (Below dense from) ⌝ }
+    ensures { λ r. ⌜ Found (now (t .entry)) (now (part .entry)) states dense at quarter from r ⌝ }
+{
+    Cursors {
+        first: cell_of(t, from.first, part[at]),
+        second: cell_of(t, from.second, part[at + quarter]),
+        third: cell_of(t, from.third, part[at + 2 * quarter]),
+        fourth: cell_of(t, from.fourth, part[at + 3 * quarter]),
+    }
+}
+
+// A number that no state has leads to the root.
+fn state_or_root(states: usize, found: usize) -> usize
+    ensures { λ r. ⌜ r ≡ cond (ltb found states) found 0 ⌝ }
+{
+    if found < states { found } else { 0 }
+}
+
+// The next state, whatever the state.
+fn next_of(t: &[u8], states: usize, dense: usize, index: usize, byte: u8) -> usize
+    requires { ⌜ (Whole (now t)) × (states ≤ roomForStates) × (1 ≤ dense) × (dense ≤ states) × (index < states) ⌝ }
+    ensures { λ r. ⌜ (r ≡ quickIn (now (t .entry)) states dense index byte) × (r < states) ⌝ }
+{
+    state_or_root(states, gliding::sought(t, states, dense, index, byte))
+}
+
+// One turn where some state has no row.
+fn deep_turn(
+    t: &[u8],
+    states: usize,
+    dense: usize,
+    part: &[u8],
+    at: usize,
+    quarter: usize,
+    from: Cursors,
+) -> Cursors
+    requires { ⌜ TurnReady (now t) (now part) states dense at quarter from ⌝ }
+    ensures { λ r. ⌜ Turned (now (t .entry)) (now (part .entry)) states dense at quarter from r ⌝ }
+{
+    Cursors {
+        first: next_of(t, states, dense, from.first, part[at]),
+        second: next_of(t, states, dense, from.second, part[at + quarter]),
+        third: next_of(t, states, dense, from.third, part[at + 2 * quarter]),
+        fourth: next_of(t, states, dense, from.fourth, part[at + 3 * quarter]),
+    }
+}
+
+// One turn: each cursor takes the next byte of its quarter. Two tests are made for all four together.
+fn turn(
+    t: &[u8],
+    states: usize,
+    dense: usize,
+    part: &[u8],
+    at: usize,
+    quarter: usize,
+    from: Cursors,
+) -> Cursors
+    requires { ⌜ TurnReady (now t) (now part) states dense at quarter from ⌝ }
+    ensures { λ r. ⌜ Turned (now (t .entry)) (now (part .entry)) states dense at quarter from r ⌝ }
+{
+    if !all_below(dense, from) {
+        return deep_turn(t, states, dense, part, at, quarter, from);
+    }
+    let found = four_cells(t, states, dense, part, at, quarter, from);
+    if all_below(states, found) {
+        return found;
+    }
+    Cursors {
+        first: state_or_root(states, found.first),
+        second: state_or_root(states, found.second),
+        third: state_or_root(states, found.third),
+        fourth: state_or_root(states, found.fourth),
+    }
+}
+
+// Writes the four states one after the other.
+fn put_four(ahead: &mut [u16], at: usize, cursors: Cursors)
+    requires { ⌜ (at + 4 ≤ length (now ahead)) × (Below roomForStates cursors) ⌝ }
+    ensures { λ _. ⌜ now (ahead .exit) ≡ withFour (now (ahead .entry)) at cursors ⌝ }
+{
+    ahead[at] = cursors.first as u16;
+    ahead[at + 1] = cursors.second as u16;
+    ahead[at + 2] = cursors.third as u16;
+    ahead[at + 3] = cursors.fourth as u16;
+}
+
+// So many turns.
+fn run_four(
+    t: &[u8],
+    part: &[u8],
+    first: usize,
+    quarter: usize,
+    count: usize,
+    start: Cursors,
+    ahead: &mut [u16],
+) -> Cursors
+    requires { ⌜ (RunReady (now t) (now part) first quarter count (now ahead)) × (Below (stateCountIn (now t)) start) ⌝ }
+    ensures { λ r. ⌜ Ran (now (t .entry)) (now (part .entry)) first quarter count start r (now (ahead .entry)) (now (ahead .exit)) ⌝ }
+{
+    let states = tables::state_count(t);
+    let dense = tables::dense(t);
+    let mut cursors = start;
+    let mut i: usize = 0;
+    while i < count {
+        cursors = turn(t, states, dense, part, first + i, quarter, cursors);
+        put_four(ahead, QUARTERS * i, cursors);
+        i += 1;
+    }
+    cursors
+}
+
+// Where the cursors begin: the first in the state at hand, each other one in a guess, the state in which a walk over the last bytes before its quarter ends. What is
+// written meanwhile is written over later.
+fn guessed(
+    t: &[u8],
+    part: &[u8],
+    first: usize,
+    quarter: usize,
+    state: State,
+    ahead: &mut [u16],
+) -> Cursors
+    requires { ⌜ LookReady (now t) (now part) first quarter (state .0) (now ahead) ⌝ }
+    ensures { λ r. ⌜ (r .first ≡ state .0) × (Below (stateCountIn (now (t .entry))) r) × (length (now (ahead .exit)) ≡ length (now (ahead .entry))) ⌝ }
+{
+    let roots = Cursors {
+        first: 0,
+        second: 0,
+        third: 0,
+        fourth: 0,
+    };
+    let warm = run_four(
+        t,
+        part,
+        first + quarter - WARM_UP,
+        quarter,
+        WARM_UP,
+        roots,
+        ahead,
+    );
+    Cursors {
+        first: state.index(),
+        second: warm.first,
+        third: warm.second,
+        fourth: warm.third,
+    }
+}
+
+// Looks one quarter up alone, from a state on.
+fn run_again(
+    t: &[u8],
+    part: &[u8],
+    from: usize,
+    quarter: usize,
+    k: usize,
+    state: usize,
+    ahead: &mut [u16],
+) -> usize
+    requires { ⌜ AgainReady (now t) (now part) from quarter k state (now ahead) ⌝ }
+    ensures { λ r. ⌜ Mended (now (t .entry)) (now (part .entry)) from quarter k state r (now (ahead .entry)) (now (ahead .exit)) ⌝ }
+{
+    let states = tables::state_count(t);
+    let dense = tables::dense(t);
+    let mut index = state;
+    let mut i: usize = 0;
+    while i < quarter {
+        index = next_of(t, states, dense, index, part[from + i]);
+        ahead[QUARTERS * i + k] = index as u16;
+        i += 1;
+    }
+    index
+}
+
+// Looks a quarter up again where the cursor before it ended elsewhere than its own began. Answers where it ends.
+fn mend(
+    t: &[u8],
+    part: &[u8],
+    from: usize,
+    quarter: usize,
+    k: usize,
+    state: usize,
+    began: usize,
+    ended: usize,
+    ahead: &mut [u16],
+) -> usize
+    requires { ⌜ (AgainReady (now t) (now part) from quarter k state (now ahead)) × (Listed (now t) (now part) from began quarter k (now ahead)) × (ended ≡ afterFrom (now t) (now part) from began quarter) ⌝ }
+    ensures { λ r. ⌜ Mended (now (t .entry)) (now (part .entry)) from quarter k state r (now (ahead .entry)) (now (ahead .exit)) ⌝ }
+{
+    if state == began {
+        return ended;
+    }
+    run_again(t, part, from, quarter, k, state, ahead)
+}
+
+// Looks up the states that the bytes of four quarters lead to, from a byte of the part on: every fourth number is of the same quarter.
+pub fn look_ahead(
+    t: &[u8],
+    part: &[u8],
+    first: usize,
+    quarter: usize,
+    state: State,
+    ahead: &mut [u16],
+)
+    requires { ⌜ LookReady (now t) (now part) first quarter (state .0) (now ahead) ⌝ }
+    ensures { λ _. ⌜ (Looked (now (t .entry)) (now (part .entry)) first quarter (state .0) (now (ahead .exit))) × (length (now (ahead .exit)) ≡ length (now (ahead .entry))) ⌝ }
+{
+    let start = guessed(t, part, first, quarter, state, ahead);
+    let ends = run_four(t, part, first, quarter, quarter, start, ahead);
+    let second = mend(
+        t,
+        part,
+        first + quarter,
+        quarter,
+        1,
+        ends.first,
+        start.second,
+        ends.second,
+        ahead,
+    );
+    let third = mend(
+        t,
+        part,
+        first + 2 * quarter,
+        quarter,
+        2,
+        second,
+        start.third,
+        ends.third,
+        ahead,
+    );
+    mend(
+        t,
+        part,
+        first + 3 * quarter,
+        quarter,
+        3,
+        third,
+        start.fourth,
+        ends.fourth,
+        ahead,
+    );
+}
