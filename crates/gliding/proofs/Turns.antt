@@ -124,7 +124,7 @@ pub record Gliding (t m part : List ℕ) (from : Gone) (whole : Glide) (gone : G
   pub rest : glideIn t m (drop (gone .taken) part) gone ≡ whole
 
 -- A way is kept where it has gone as far as these numbers say.
-kept-by : (t part : List ℕ) (first to : Way) (gone : Gone) (event : Bool) → glideOf to ≡ record { gone = gone; event = event }
+pub kept-by : (t part : List ℕ) (first to : Way) (gone : Gone) (event : Bool) → glideOf to ≡ record { gone = gone; event = event }
     → gone .state < stateCountIn t → gone .taken ≤ length part → first .taken ≤ gone .taken → (event ≡ true → first .taken < gone .taken)
     → gone .place + first .taken ≡ first .place .0 + gone .taken → gone .gains ≤ 128 * gone .taken → GlideKept t part first to
 kept-by t part first to gone event is inside within onward more early few =

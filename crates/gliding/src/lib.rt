@@ -28,7 +28,7 @@ pub struct Way {
 }
 
 // Whether nothing happens once a state is reached at a place: no keyword ends in the state, and no window opens at the place.
-fn is_quiet(t: &[u8], m: &[u8], state: State, place: Place) -> bool
+pub fn is_quiet(t: &[u8], m: &[u8], state: State, place: Place) -> bool
     requires { ⌜ (Whole (now t)) × (WholeRunning (now m)) × (state .0 < roomForStates) ⌝ }
     ensures { λ r. ⌜ r ≡ quietAt (now (t .entry)) (now (m .entry)) (state .0) (place .0) ⌝ }
 {
