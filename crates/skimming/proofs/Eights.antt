@@ -6,9 +6,9 @@ use mathlib.Core.Bool.{Bool, true, false}
 use mathlib.Core.List.{List}
 use Prim.Native.Nat.{ℕ, zero, suc, _+_, _-_, _*_, _%_, _≤_, _<_}
 use native.Mathlib.Omega.{arith}
-use lib.ListN.{length, getD}
+use lib.ListN.{getD}
 use borrow.Author.Tests.{lt-leb}
-use Rattle.lent.specs.Numbers.{numberAt, bytesAt, lowFirst}
+use Rattle.lent.specs.Numbers.{numberAt}
 use Rattle.tables.specs.Reads.{infoIn, gainIn, endingIn}
 use Rattle.running.specs.Reads.{flagIn}
 use Rattle.window.specs.Waiting.{slotOf}

@@ -10,7 +10,7 @@ use lib.Seq.{drop-cons, drop-length}
 use Rattle.tables.specs.Reads.{stateCountIn, denseIn, gainIn}
 use Rattle.gliding.specs.Quick.{quickIn}
 use Rattle.gliding.specs.Glide.{Gone, further, quietAt, goesOn, Glide, oneOn, glideIn, goneBy, glideOf, GlideKept}
-use Rattle.gliding.specs.Foreseen.{afterFrom, Foreseen}
+use Rattle.gliding.specs.Foreseen.{afterFrom}
 use Rattle.gliding.specs.declared.Way.{Way}
 use Rattle.gliding.proofs.Turns.{kept-by}
 use Rattle.gliding.proofs.Foreseen.{after-more, after-inside}
@@ -18,7 +18,7 @@ use Rattle.skimming.specs.Look.{Look, lookIn, lookFrom}
 use Rattle.skimming.specs.Infos.{States}
 use Rattle.skimming.specs.Ready.{lookOf, wayOf, LookReady, LookKept, SkimReady}
 use Rattle.skimming.specs.declared.Looking.{Looking}
-use Rattle.skimming.proofs.Looks.{look, step-quiet, step-event, from-quiet}
+use Rattle.skimming.proofs.Looks.{step-quiet, step-event, from-quiet}
 
 -- From a byte of a part on, with the states of the bytes behind it standing four apart from a number on.
 module _ (t m part ahead : List ℕ) (taken state at : ℕ)

@@ -1,6 +1,6 @@
 // The sum of what the infos of states say that were looked up ahead: two, four and eight of them.
 ghost use mathlib.Core.Path.{_≡_};
-ghost use Prim.Native.Nat.{_+_, _*_, _≤_, _<_};
+ghost use Prim.Native.Nat.{_<_};
 ghost use Rattle.skimming.specs.Infos.{infosIn, InfosReady};
 use counters::State;
 

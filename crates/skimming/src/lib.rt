@@ -2,8 +2,8 @@
 // writes nothing.
 ghost use mathlib.Core.Path.{_≡_};
 ghost use mathlib.Core.Bool.{false};
-ghost use Prim.Native.Nat.{_+_, _-_, _≤_, _<_};
-ghost use lib.ListN.{length, drop};
+ghost use Prim.Native.Nat.{_-_, _<_};
+ghost use lib.ListN.{drop};
 ghost use Rattle.gliding.specs.Glide.{glideIn, goneBy, glideOf, GlideKept};
 ghost use Rattle.gliding.specs.Foreseen.{afterFrom};
 ghost use Rattle.skimming.specs.Look.{lookFrom};

@@ -1,6 +1,6 @@
 -- Whether it is quiet at the place decides, as it does for one place of the definition.
 -- Assumes nothing.
-use mathlib.Core.Path.{sym, ap, _∙_}
+use mathlib.Core.Path.{sym, _∙_}
 use native.Mathlib.Omega.{arith}
 use borrow.Author.Needs.{needs}
 use Rattle.skimming.proofs.Looks.{one-place, first-state}

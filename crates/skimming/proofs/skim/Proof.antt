@@ -5,7 +5,6 @@ use mathlib.Core.Path.{_≡_, refl, _∙_}
 use mathlib.Core.Bool.{false}
 use native.Mathlib.Omega.{arith}
 use lib.ListN.{length}
-use borrow.Author.Needs.{needs}
 use Rattle.skimming.specs.Look.{lookFrom}
 use Rattle.skimming.specs.Ready.{lookOf, LookKept}
 use Rattle.skimming.proofs.Looks.{kept-still, kept-on, ready-on, way-ready, settled-event, settled-end}

@@ -1,9 +1,7 @@
 -- One state: its info.
 -- Assumes nothing.
-use mathlib.Core.Path.{_≡_, sym, ap, _∙_}
-use Prim.Native.Nat.{ℕ, _+_, _*_}
+use mathlib.Core.Path.{ap, _∙_}
 use native.Mathlib.Omega.{arith}
-use lib.ListN.{getD}
 use borrow.Author.Needs.{needs}
 use Rattle.tables.specs.Reads.{infoIn}
 use Rattle.skimming.proofs.Eights.{infos-one}
