@@ -2,15 +2,14 @@
 -- Assumes nothing.
 use mathlib.Core.Path.{_≡_, refl, sym, ap, ap₂, _∙_}
 use mathlib.Core.Logic.{⊎-elim}
-use mathlib.Core.Bool.{Bool, true, false, cond, not, false≢true}
+use mathlib.Core.Bool.{Bool, true, false, not, false≢true}
 use mathlib.Core.List.{List, [], _∷_}
 use Prim.Native.Nat.{ℕ, suc, _+_, _*_, _≤_, _<_}
 use native.Mathlib.Numerals.{add-one}
 use native.Mathlib.Omega.{arith}
-use lib.Dec.{leb}
 use lib.ListN.{length, getD, drop}
 use lib.Seq.{drop-cons, drop-length}
-use borrow.Author.Tests.{lt-ltb, le-ltb, le-leb, lt-leb}
+use borrow.Author.Tests.{lt-ltb, le-ltb}
 use Rattle.lent.proofs.Cases.{lt-or-le}
 use Rattle.tables.specs.Reads.{stateCountIn, denseIn, gainIn}
 use Rattle.gliding.specs.Quick.{soughtIn, quickIn}
@@ -47,22 +46,16 @@ module _ (t m : List ℕ) (gone : Gone) (byte : ℕ) where
   unfolding further
   came state gain place is e there = rw (e, there, is)
 
-  glide-stray : stateCountIn t ≤ found → goesOn t m gone byte ≡ false
-  unfolding goesOn
-  glide-stray l = rw (le-leb (stateCountIn t) found l)
-
-  found-on : found < stateCountIn t → goesOn t m gone byte ≡ quietAt t m found (gone .place + 1)
-  unfolding goesOn further
-  found-on l = rw (lt-leb (stateCountIn t) found l, quick-found t (stateCountIn t) (denseIn t) (gone .state) byte l)
-
   -- Where the way goes on it is quiet.
   pub goes-quiet : goesOn t m gone byte ≡ true → quietAt t m (further t gone byte .state) (gone .place + 1) ≡ true
   unfolding goesOn
-  goes-quiet e = go (leb (stateCountIn t) found) e
-    where
-      go : (v : Bool) → cond v false (quietAt t m (further t gone byte .state) (gone .place + 1)) ≡ true → quietAt t m (further t gone byte .state) (gone .place + 1) ≡ true
-      go true h = absurd (false≢true h)
-      go false h = h
+  goes-quiet e = e
+
+  -- Whether it is quiet at the next state decides.
+  goes-by : (state place : ℕ) (quiet : Bool) → state ≡ quickIn t (stateCountIn t) (denseIn t) (gone .state) byte → place ≡ gone .place + 1
+      → quietAt t m state place ≡ quiet → goesOn t m gone byte ≡ quiet
+  unfolding goesOn further
+  goes-by state place quiet is there q = ap₂ (quietAt t m) (sym is) (sym there) ∙ q
 
   one-on : (gone₁ : Gone) (on : Bool) → gone₁ ≡ further t gone byte → goesOn t m gone byte ≡ on → record { gone = gone₁; event = not on } ≡ oneOn t m gone byte
   unfolding oneOn
@@ -77,21 +70,25 @@ module _ (t m : List ℕ) (gone : Gone) (byte : ℕ) where
     abbrev after : ℕ → ℕ → Gone
     after state gain = record { state = state; place = place; taken = gone .taken + 1; gains = gone .gains + gain }
 
-    -- It is no state: the byte leads to the root.
-    pub one-stray : states ≤ next → (root gain : ℕ) → root ≡ 0 → gain ≡ gainIn t root → record { gone = after 0 gain; event = true } ≡ oneOn t m gone byte
-    one-stray l root gain z e =
-        let far : stateCountIn t ≤ found = omega (arith, sought) in
-        let quick : 0 ≡ quickIn t (stateCountIn t) (denseIn t) (gone .state) byte = sym (quick-stray t (stateCountIn t) (denseIn t) (gone .state) byte far) in
-        one-on (after 0 gain) false (came 0 gain place quick (e ∙ ap (gainIn t) z) there) (glide-stray far)
+    -- The next state is known, and whether it is quiet there.
+    module _ (to : ℕ) (quick : to ≡ quickIn t (stateCountIn t) (denseIn t) (gone .state) byte) (state other gain : ℕ) (quiet : Bool)
+        (reached : state ≡ to) (e : gain ≡ gainIn t state) (also : other ≡ to) (q : quietAt t m other place ≡ quiet) where
+      one-to : record { gone = after to gain; event = not quiet } ≡ oneOn t m gone byte
+      one-to = one-on (after to gain) quiet (came to gain place quick (e ∙ ap (gainIn t) reached) there) (goes-by other place quiet (also ∙ quick) there q)
 
-    -- It is a state: whether it is quiet there decides.
+    -- It is no state: the byte leads to the root.
+    pub one-stray : states ≤ next → (state other gain : ℕ) (quiet : Bool) → state ≡ 0 → gain ≡ gainIn t state → other ≡ 0 → quietAt t m other place ≡ quiet
+        → record { gone = after 0 gain; event = not quiet } ≡ oneOn t m gone byte
+    one-stray l =
+        let far : stateCountIn t ≤ found = omega (arith, sought) in
+        one-to 0 (sym (quick-stray t (stateCountIn t) (denseIn t) (gone .state) byte far))
+
+    -- It is a state.
     pub one-found : next < states → (state other gain : ℕ) (quiet : Bool) → state ≡ next → gain ≡ gainIn t state → other ≡ next → quietAt t m other place ≡ quiet
         → record { gone = after next gain; event = not quiet } ≡ oneOn t m gone byte
-    one-found l state other gain quiet reached e also q =
+    one-found l =
         let near : found < stateCountIn t = omega (arith, sought) in
-        let quick : next ≡ quickIn t (stateCountIn t) (denseIn t) (gone .state) byte = sought ∙ sym (quick-found t (stateCountIn t) (denseIn t) (gone .state) byte near) in
-        let decides : goesOn t m gone byte ≡ quiet = found-on near ∙ ap₂ (quietAt t m) (sym (also ∙ sought)) (sym there) ∙ q in
-        one-on (after next gain) quiet (came next gain place quick (e ∙ ap (gainIn t) reached) there) decides
+        one-to next (sought ∙ sym (quick-found t (stateCountIn t) (denseIn t) (gone .state) byte near))
 
   -- ── Gliding on from the byte ──
 
@@ -127,7 +124,7 @@ pub record Gliding (t m part : List ℕ) (from : Gone) (whole : Glide) (gone : G
   pub rest : glideIn t m (drop (gone .taken) part) gone ≡ whole
 
 -- A way is kept where it has gone as far as these numbers say.
-kept-by : (t part : List ℕ) (first to : Way) (gone : Gone) (event : Bool) → glideOf to ≡ record { gone = gone; event = event }
+pub kept-by : (t part : List ℕ) (first to : Way) (gone : Gone) (event : Bool) → glideOf to ≡ record { gone = gone; event = event }
     → gone .state < stateCountIn t → gone .taken ≤ length part → first .taken ≤ gone .taken → (event ≡ true → first .taken < gone .taken)
     → gone .place + first .taken ≡ first .place .0 + gone .taken → gone .gains ≤ 128 * gone .taken → GlideKept t part first to
 kept-by t part first to gone event is inside within onward more early few =

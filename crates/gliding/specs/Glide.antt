@@ -2,14 +2,14 @@
 use mathlib.Core.Bool.{Bool, true, false, cond, not}
 use mathlib.Core.List.{List, [], _∷_}
 use Prim.Native.Nat.{ℕ, _+_, _*_, _≤_, _<_}
-use lib.Dec.{leb, eqb}
+use lib.Dec.{eqb}
 use lib.ListN.{length}
 use mathlib.Core.Path.{_≡_}
 use Rattle.tables.specs.Layout.{roomForStates}
 use Rattle.tables.specs.Reads.{Whole, stateCountIn, denseIn, gainIn, endingIn}
 use Rattle.running.specs.Reads.{WholeRunning, flagIn}
 use Rattle.window.specs.Waiting.{slotOf}
-use Rattle.gliding.specs.Quick.{soughtIn, quickIn}
+use Rattle.gliding.specs.Quick.{quickIn}
 use Rattle.gliding.specs.declared.Way.{Way}
 
 -- How far bytes have been taken: the state, the place, how many bytes, and the sum of the gains.
@@ -33,12 +33,10 @@ seenIn m slot = flagIn m slot
 unfoldable pub quietAt : List ℕ → List ℕ → ℕ → ℕ → Bool
 quietAt t m state place = cond (endingIn t state) false (eqb (seenIn m (slotOf place)) 0)
 
--- The way goes on after a byte: what was found for it is a state, and nothing happens there.
+-- The way goes on after a byte: nothing happens there.
 unfoldable pub goesOn : List ℕ → List ℕ → Gone → ℕ → Bool
 unfolding quietAt further
-goesOn t m gone byte =
-    cond (leb (stateCountIn t) (soughtIn t (stateCountIn t) (denseIn t) (gone .state) byte)) false
-    (quietAt t m (further t gone byte .state) (gone .place + 1))
+goesOn t m gone byte = quietAt t m (further t gone byte .state) (gone .place + 1)
 
 -- Where gliding ends, and whether what happens at the last byte taken is still to be done.
 pub record Glide : Type 0 where

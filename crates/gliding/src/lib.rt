@@ -28,7 +28,7 @@ pub struct Way {
 }
 
 // Whether nothing happens once a state is reached at a place: no keyword ends in the state, and no window opens at the place.
-fn is_quiet(t: &[u8], m: &[u8], state: State, place: Place) -> bool
+pub fn is_quiet(t: &[u8], m: &[u8], state: State, place: Place) -> bool
     requires { ⌜ (Whole (now t)) × (WholeRunning (now m)) × (state .0 < roomForStates) ⌝ }
     ensures { λ r. ⌜ r ≡ quietAt (now (t .entry)) (now (m .entry)) (state .0) (place .0) ⌝ }
 {
@@ -47,7 +47,7 @@ struct Going {
     event: bool,
 }
 
-// One byte more.
+// One byte more. What is found for it and is no state leads to the root.
 fn go_on(t: &[u8], m: &[u8], states: usize, dense: usize, from: Going, byte: u8) -> Going
     requires { ⌜ GoReady (now t) (now m) states dense from ⌝ }
     ensures { λ r. ⌜ (goingOf r ≡ oneOn (now (t .entry)) (now (m .entry)) (goneTo from) byte) × (GoKept states from r) ⌝ }
@@ -61,7 +61,7 @@ fn go_on(t: &[u8], m: &[u8], states: usize, dense: usize, from: Going, byte: u8)
             place,
             taken,
             gains: from.gains + lent::wide64(tables::gain(t, State::root())),
-            event: true,
+            event: !is_quiet(t, m, State::root(), place),
         };
     }
     let gains = from.gains + lent::wide64(tables::gain(t, quick::state_at(next)));
@@ -98,8 +98,8 @@ fn way_to(going: Going) -> Way
     }
 }
 
-// Takes bytes until one leads to no state of the tables, which is then the root, or until something happens, or until none is left. It
-// takes two in a turn: so it is long enough to stay a function of its own, with its numbers in registers.
+// Takes bytes until something happens, or until none is left. It takes two in a turn: so it is long enough to stay a function of
+// its own, with its numbers in registers.
 pub fn glide(t: &[u8], m: &[u8], part: &[u8], from: Way) -> Way
     requires { ⌜ GlideReady (now t) (now m) (now part) from ⌝ }
     ensures { λ r. ⌜ (glideOf r ≡ glideIn (now (t .entry)) (now (m .entry)) (drop (from .taken) (now (part .entry))) (goneBy from)) × (GlideKept (now (t .entry)) (now (part .entry)) from r) ⌝ }

@@ -30,15 +30,23 @@ wide64-requires c κs = search needs
 add-t15 : tie.Need-add-t15
 add-t15 c = search needs
 
+root-requires-2 : tie.Need-root-requires-2
+root-requires-2 c κs = search needs
+
+is-quiet-requires : tie.Need-is-quiet-requires
+is-quiet-requires c κs = search needs
+
 returns : tie.Need-returns
 returns c =
-    let turn = c .before .before .before .before in
+    let gain = c .before .before .before in
+    let turn = gain .before .before .before in
     let entry = turn .before .before .before .before .before .before in
     let a = entry .args in
     let start = entry .pre in
     let next = turn .before .before .before .sought in (
       one-stray (a .t .now) (a .m .now) (goneTo (a .from)) (a .byte) (a .states) (a .dense) (start .counted) (start .rows) (next .result) (next .ensures .0)
-          _ (turn .before .before .next .ensures) (turn .if1 .taken) _ _ (c .before .before .before .root .ensures) (c .before .wide64 .ensures .0 ∙ c .before .before .gain .ensures),
+          _ (turn .before .before .next .ensures) (turn .if1 .taken) _ _ _ (c .is-quiet .result) (gain .before .before .root .ensures) (gain .wide64 .ensures .0 ∙ gain .before .gain .ensures)
+          (c .before .root2 .ensures) (sym (c .is-quiet .ensures)),
       record { inside = omega arith; place = turn .before .before .next .ensures; taken = omega arith; few-gains = omega arith },
     )
 
@@ -57,8 +65,8 @@ add-gains c = search needs
 state-at-requires-2 : tie.Need-state-at-requires-2
 state-at-requires-2 c κs = search needs
 
-is-quiet-requires : tie.Need-is-quiet-requires
-is-quiet-requires c κs = search needs
+is-quiet-requires-2 : tie.Need-is-quiet-requires-2
+is-quiet-requires-2 c κs = search needs
 
 returns-2 : tie.Need-returns-2
 returns-2 c =
@@ -68,7 +76,7 @@ returns-2 c =
     let start = entry .pre in
     let next = turn .before .before .before .sought in
     let gain = c .before .before .before .before in
-    let quiet = c .before .is-quiet in
+    let quiet = c .before .is-quiet2 in
     let one = one-found (a .t .now) (a .m .now) (goneTo (a .from)) (a .byte) (a .states) (a .dense) (start .counted) (start .rows) (next .result) (next .ensures .0)
     _ (turn .before .before .next .ensures) (omega (arith, turn .if1 .left)) _ _ _ true (gain .before .before .state-at .ensures)
     (gain .wide642 .ensures .0 ∙ gain .before .gain2 .ensures) (c .before .before .state-at2 .ensures) (sym (quiet .ensures) ∙ c .if2 .taken) in (
@@ -84,7 +92,7 @@ returns-3 c =
     let start = entry .pre in
     let next = turn .before .before .before .sought in
     let gain = c .before .before .before .before in
-    let quiet = c .before .is-quiet in
+    let quiet = c .before .is-quiet2 in
     let one = one-found (a .t .now) (a .m .now) (goneTo (a .from)) (a .byte) (a .states) (a .dense) (start .counted) (start .rows) (next .result) (next .ensures .0)
     _ (turn .before .before .next .ensures) (omega (arith, turn .if1 .left)) _ _ _ false (gain .before .before .state-at .ensures)
     (gain .wide642 .ensures .0 ∙ gain .before .gain2 .ensures) (c .before .before .state-at2 .ensures) (sym (quiet .ensures) ∙ c .if2 .left) in (
@@ -103,12 +111,14 @@ go-on-spec =
     gain-requires
     wide64-requires
     add-t15
+    root-requires-2
+    is-quiet-requires
     returns
     state-at-requires
     gain-requires-2
     wide64-requires-2
     add-gains
     state-at-requires-2
-    is-quiet-requires
+    is-quiet-requires-2
     returns-2
     returns-3)
