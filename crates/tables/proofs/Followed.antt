@@ -1,6 +1,6 @@
 -- A failure is followed only to a smaller number, and a link only to a piece: each law is one side of the test.
 -- Assumes nothing.
-use mathlib.Core.Path.{_≡_, refl}
+use mathlib.Core.Path.{_≡_, refl, sym, ap, _∙_}
 use mathlib.Core.Bool.{Bool, true, false}
 use mathlib.Core.List.{List}
 use Prim.Native.Nat.{ℕ, _+_, _≤_, _<_}
@@ -19,6 +19,17 @@ module _ (t : List ℕ) where
   unfolding backIn
   back-root i larger = rw (le-ltb (failIn t i) i larger)
 
+  -- The same of the numbers that the code reads: the state's, once by its index, and what stands there.
+  pub followed : {i j n fail r : ℕ} → j ≡ i → fail ≡ failIn t j → n ≡ i → fail < n → r ≡ fail → (r ≡ backIn t i) × (r ≤ i)
+  followed {i} {j} {n} {fail} same read own smaller said =
+      let there : fail ≡ failIn t i = read ∙ ap (failIn t) same in
+      (said ∙ there ∙ sym (back-fail i (omega arith)), omega arith)
+
+  pub not-followed : {i j n fail r : ℕ} → j ≡ i → fail ≡ failIn t j → n ≡ i → n ≤ fail → r ≡ 0 → (r ≡ backIn t i) × (r ≤ i)
+  not-followed {i} {j} {n} {fail} same read own larger said =
+      let there : fail ≡ failIn t i = read ∙ ap (failIn t) same in
+      (said ∙ sym (back-root i (omega arith)), omega arith)
+
   pub back-below : (i : ℕ) → 0 < i → backIn t i < i
   back-below i some = go (ltb (failIn t i) i) refl
     where
@@ -33,6 +44,9 @@ module _ (t : List ℕ) where
   pub first-link-none : (i : ℕ) → endingIn t i ≡ false → firstLinkIn t i ≡ 0
   unfolding firstLinkIn
   first-link-none i e = rw e
+
+  pub linked : (i : ℕ) {first : ℕ} {some : Bool} → some ≡ endingIn t i → some ≡ true → first ≡ outIn t i → first < roomForPieces → (first + 1 ≡ firstLinkIn t i) × (first + 1 ≤ roomForPieces)
+  linked i says holds read small = (ap (λ (n : ℕ). n + 1) read ∙ sym (first-link-some i (sym says ∙ holds)), omega arith)
 
   pub onward-link : (p : ℕ) → linkIn t p ≤ roomForPieces → onwardIn t p ≡ linkIn t p
   unfolding onwardIn

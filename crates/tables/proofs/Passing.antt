@@ -2,7 +2,7 @@
 -- Assumes nothing.
 use mathlib.Core.Path.{_≡_, refl, sym, ap, _∙_}
 use mathlib.Core.Logic.{_↔_}
-use mathlib.Core.Bool.{false, So, and-eq-true-iff}
+use mathlib.Core.Bool.{Bool, false, So, and-eq-true-iff}
 use mathlib.Core.List.{List, []}
 use Prim.Native.Nat.{ℕ, zero, suc, _≤_, _<_}
 use native.Mathlib.Omega.{arith}
@@ -23,7 +23,7 @@ use Rattle.tables.specs.Spots.{spotCount}
 use Rattle.tables.specs.Endings.{keywordOf}
 use Rattle.tables.specs.Layout.{tablesSize, tagAt, roomForStates, roomForPieces, roomForPhrases, tablesTag, tablesLayout}
 use Rattle.tables.specs.Reads.{stateCountIn, denseIn, pieceCountIn, phraseCountIn}
-use Rattle.tables.specs.Passing.{TablesPass, between, tablesPass}
+use Rattle.tables.specs.Passing.{TablesPass, between, countsPass, tablesPass}
 use Rattle.tables.proofs.Spots.{placed}
 use Rattle.tables.proofs.Fits.{fits}
 use Rattle.tables.proofs.Parts.{number-zero}
@@ -41,34 +41,40 @@ pub between-under : (low high n : ℕ) → n < low → between low high n ≡ fa
 unfolding between
 between-under low high n h = rw (lt-leb low n h)
 
+-- What is said of a number as it was read is said of the number that stands there.
+pub tested : (low : ℕ) {high high′ n n′ : ℕ} {b v : Bool} → b ≡ between low high n → high ≡ high′ → n ≡ n′ → b ≡ v → between low high′ n′ ≡ v
+tested low e h m w = rw (← h, ← m) (sym e ∙ w)
+
 module _ (t : List ℕ) where
   pub pass-short : length t < 49152 → tablesPass t ≡ false
   unfolding tablesPass tablesSize
   pass-short h = rw (lt-leb 49152 (length t) h)
 
-  module _ (long : 49152 ≤ length t) where
-    pub pass-tag : (numberAt 8 t tagAt ≡ tablesTag → ⊥) → tablesPass t ≡ false
-    unfolding tablesPass tablesSize
-    pass-tag h = rw (le-leb 49152 (length t) long, ne-eqb (numberAt 8 t tagAt) tablesTag h)
+  pub pass-tag : 49152 ≤ length t → (numberAt 8 t tagAt ≡ tablesTag → ⊥) → tablesPass t ≡ false
+  unfolding tablesPass tablesSize
+  pass-tag long h = rw (le-leb 49152 (length t) long, ne-eqb (numberAt 8 t tagAt) tablesTag h)
 
-    module _ (tag : numberAt 8 t tagAt ≡ tablesTag) where
-      pub pass-states : between 2 roomForStates (stateCountIn t) ≡ false → tablesPass t ≡ false
-      unfolding tablesPass tablesSize
-      pass-states h = rw (le-leb 49152 (length t) long, eq-eqb (numberAt 8 t tagAt) tablesTag tag, h)
+  pub pass-counts : 49152 ≤ length t → numberAt 8 t tagAt ≡ tablesTag → tablesPass t ≡ countsPass t
+  unfolding tablesPass countsPass tablesSize
+  pass-counts long tag = rw (le-leb 49152 (length t) long, eq-eqb (numberAt 8 t tagAt) tablesTag tag)
 
-      module _ (states : So (between 2 roomForStates (stateCountIn t))) where
-        pub pass-dense : between 1 (stateCountIn t) (denseIn t) ≡ false → tablesPass t ≡ false
-        unfolding tablesPass tablesSize
-        pass-dense h = rw (le-leb 49152 (length t) long, eq-eqb (numberAt 8 t tagAt) tablesTag tag, states, h)
+  pub counts-states : between 2 roomForStates (stateCountIn t) ≡ false → countsPass t ≡ false
+  unfolding countsPass
+  counts-states h = rw h
 
-        module _ (dense : So (between 1 (stateCountIn t) (denseIn t))) where
-          pub pass-pieces : between 1 roomForPieces (pieceCountIn t) ≡ false → tablesPass t ≡ false
-          unfolding tablesPass tablesSize
-          pass-pieces h = rw (le-leb 49152 (length t) long, eq-eqb (numberAt 8 t tagAt) tablesTag tag, states, dense, h)
+  module _ (states : So (between 2 roomForStates (stateCountIn t))) where
+    pub counts-dense : between 1 (stateCountIn t) (denseIn t) ≡ false → countsPass t ≡ false
+    unfolding countsPass
+    counts-dense h = rw (states, h)
 
-          pub pass-phrases : So (between 1 roomForPieces (pieceCountIn t)) → tablesPass t ≡ between 1 roomForPhrases (phraseCountIn t)
-          unfolding tablesPass tablesSize
-          pass-phrases h = rw (le-leb 49152 (length t) long, eq-eqb (numberAt 8 t tagAt) tablesTag tag, states, dense, h)
+    module _ (dense : So (between 1 (stateCountIn t) (denseIn t))) where
+      pub counts-pieces : between 1 roomForPieces (pieceCountIn t) ≡ false → countsPass t ≡ false
+      unfolding countsPass
+      counts-pieces h = rw (states, dense, h)
+
+      pub counts-phrases : So (between 1 roomForPieces (pieceCountIn t)) → countsPass t ≡ between 1 roomForPhrases (phraseCountIn t)
+      unfolding countsPass
+      counts-phrases h = rw (states, dense, h)
 
 -- ── What passes ──
 

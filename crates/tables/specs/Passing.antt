@@ -33,3 +33,12 @@ tablesPass t =
     && (between 1 (stateCountIn t) (denseIn t)
     && (between 1 roomForPieces (pieceCountIn t)
     && between 1 roomForPhrases (phraseCountIn t)))))
+
+-- The part of the test that speaks of the counts.
+unfoldable pub countsPass : List ℕ → Bool
+unfolding between
+countsPass t =
+    between 2 roomForStates (stateCountIn t)
+    && (between 1 (stateCountIn t) (denseIn t)
+    && (between 1 roomForPieces (pieceCountIn t)
+    && between 1 roomForPhrases (phraseCountIn t)))

@@ -8,7 +8,7 @@ ghost use Rattle.tables.specs.Reads.{columnIn, cellIn, depthIn, gainIn};
 ghost use Rattle.tables.specs.Reads.{infoIn, outIn, labelIn, firstChildIn, endingIn, firstLinkIn, backIn};
 ghost use Rattle.tables.specs.Reads.{delayIn, spanIn, linkIn, rankIn, endsIn, onwardIn, lastIn, firstIn};
 ghost use Rattle.tables.specs.Reads.{phraseNumberIn, phraseRightsIn};
-ghost use Rattle.tables.specs.Passing.{between as betweenOf, tablesPass};
+ghost use Rattle.tables.specs.Passing.{between as betweenOf, countsPass, tablesPass};
 use counters::Number;
 use counters::Rank;
 use counters::State;
@@ -42,10 +42,19 @@ pub fn passes(t: &[u8]) -> bool
     if lent::get8(t, layout::TAG) != layout::TABLES_TAG {
         return false;
     }
-    if !between(2, layout::ROOM_FOR_STATES, state_count(t)) {
+    counts_pass(t)
+}
+
+// Whether the counts of the tables are in range.
+fn counts_pass(t: &[u8]) -> bool
+    requires { ⌜ Whole (now t) ⌝ }
+    ensures { λ r. ⌜ r ≡ countsPass (now (t .entry)) ⌝ }
+{
+    let states = state_count(t);
+    if !between(2, layout::ROOM_FOR_STATES, states) {
         return false;
     }
-    if !between(1, state_count(t), dense(t)) {
+    if !between(1, states, dense(t)) {
         return false;
     }
     if !between(1, layout::ROOM_FOR_PIECES, piece_count(t)) {

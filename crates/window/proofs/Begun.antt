@@ -1,6 +1,6 @@
 -- The first pieces wait one after the other; those that are no first pieces change nothing.
 -- Assumes nothing.
-use mathlib.Core.Path.{_≡_, refl, _∙_}
+use mathlib.Core.Path.{_≡_, refl, sym, ap, _∙_}
 use mathlib.Core.Bool.{Bool, true, false, cond}
 use mathlib.Core.List.{List}
 use Prim.Native.Nat.{ℕ, zero, suc, _+_}
@@ -29,9 +29,13 @@ module _ (t m : List ℕ) (p : ℕ) where
       go true = length-waiting-from t m p 0
       go false = refl
 
-  pub firsts-more : firstsWaiting t m (p + 1) ≡ waitingIfFirst t (firstsWaiting t m p) p
+  firsts-more : firstsWaiting t m (p + 1) ≡ waitingIfFirst t (firstsWaiting t m p) p
   unfolding firstsWaiting
   firsts-more = rw add-one
+
+-- One turn: the next piece waits if it is a first one.
+pub firsts-turn : (t m₀ : List ℕ) (p : ℕ) {m m' : List ℕ} → m ≡ firstsWaiting t m₀ p → m' ≡ waitingIfFirst t m p → m' ≡ firstsWaiting t m₀ (p + 1)
+firsts-turn t m₀ p before turn = turn ∙ ap (λ (l : List ℕ). waitingIfFirst t l p) before ∙ sym (firsts-more t m₀ p)
 
 pub length-firsts : (t m : List ℕ) (n : ℕ) → length (firstsWaiting t m n) ≡ length m
 unfolding firstsWaiting

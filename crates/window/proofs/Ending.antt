@@ -9,24 +9,13 @@ use lib.Dec.{ltb}
 use lib.ListN.{length}
 use Rattle.tables.specs.Endings.{chain}
 use Rattle.tables.specs.Layout.{roomForPieces}
-use Rattle.tables.specs.Reads.{outIn, endingIn, rankIn, onwardIn, lastIn}
+use Rattle.tables.specs.Reads.{firstLinkIn, rankIn, onwardIn, lastIn}
 use Rattle.marks.specs.Marked.{noMarks, withMark}
 use Rattle.marks.specs.declared.Marks.{Marks}
 use Rattle.running.specs.Reads.{closingPlaceIn}
 use Rattle.window.specs.Waiting.{withWaitingFrom}
-use Rattle.window.specs.Ending.{firstLinkIn, mostLooked, piecesIn, Ended, pieceEnded, piecesEnded}
+use Rattle.window.specs.Ending.{mostLooked, piecesIn, Ended, pieceEnded, piecesEnded}
 use Rattle.window.proofs.Waiting.{length-waiting-from}
-
--- ── The first piece of a state ──
-
-module _ (t : List ℕ) (state : ℕ) where
-  pub link-some : endingIn t state ≡ true → firstLinkIn t state ≡ outIn t state + 1
-  unfolding firstLinkIn
-  link-some e = rw e
-
-  pub link-none : endingIn t state ≡ false → firstLinkIn t state ≡ 0
-  unfolding firstLinkIn
-  link-none e = rw e
 
 -- ── One piece ──
 

@@ -5,7 +5,8 @@ use mathlib.Core.List.{List, []}
 use mathlib.Core.Bool.{false}
 use Prim.Native.Nat.{ℕ, _+_, _≤_}
 use lib.ListN.{length}
-use Rattle.tables.specs.Reads.{phraseCountIn, endingIn, onwardIn}
+use Rattle.tables.specs.Reads.{phraseCountIn, endingIn, firstLinkIn, onwardIn}
+use Rattle.tables.proofs.Followed.{first-link-none}
 use Rattle.marks.specs.Marked.{noMarks}
 use Rattle.marks.specs.Reported.{Reports, reported}
 use Rattle.marks.specs.declared.Marks.{Marks}
@@ -13,10 +14,10 @@ use Rattle.marks.proofs.Reported.{reported-few, reported-long, reported-none}
 use Rattle.running.specs.Reads.{flagIn}
 use Rattle.window.specs.Waiting.{slotOf}
 use Rattle.window.specs.Opening.{slotOpened}
-use Rattle.window.specs.Ending.{firstLinkIn, mostLooked, piecesIn, Ended, piecesEnded}
+use Rattle.window.specs.Ending.{mostLooked, piecesIn, Ended, piecesEnded}
 use Rattle.window.specs.Happened.{Here, endedAt, happened}
 use Rattle.window.proofs.Opening.{slot-quiet, length-slot}
-use Rattle.window.proofs.Ending.{link-none, length-pieces, chain-none}
+use Rattle.window.proofs.Ending.{length-pieces, chain-none}
 
 -- The three calls, one after the other.
 pub happens : (t : List ℕ) (state place : ℕ) (reports : Reports) (m m₁ m₂ : List ℕ) (marks : Marks) (after : Reports)
@@ -49,7 +50,7 @@ module _ (t : List ℕ) (state place : ℕ) (here : Here) where
 
 pieces-none : (t : List ℕ) (state : ℕ) → endingIn t state ≡ false → piecesIn t state ≡ []
 unfolding piecesIn
-pieces-none t state e = chain-none (onwardIn t) mostLooked (firstLinkIn t state) (link-none t state e)
+pieces-none t state e = chain-none (onwardIn t) mostLooked (firstLinkIn t state) (first-link-none t state e)
 
 ended-quiet : (t : List ℕ) (state place : ℕ) (m : List ℕ) → flagIn m (slotOf place) ≡ 0 → endingIn t state ≡ false
     → endedAt t state place m ≡ record { marks = noMarks; memory = m }

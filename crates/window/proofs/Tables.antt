@@ -23,14 +23,13 @@ use Rattle.tables.specs.Spots.{none-left, spotAt, spotCount}
 use Rattle.tables.specs.Endings.{endings, keywordOf}
 use Rattle.tables.specs.Layout.{tablesLayout, delayOf, gapSpan, spanOf, rankOf}
 use Rattle.tables.specs.Reads.{delayIn, spanIn, rankIn, lastIn, firstIn}
-use Rattle.tables.specs.Reads as tables
 use Rattle.tables.proofs.Spots.{placed}
 use Rattle.tables.proofs.Endings.{endings-iff}
 use Rattle.tables.proofs.Fields.{delay-laid, span-laid, rank-laid}
 use Rattle.tables.proofs.Meant.{last-laid, first-laid, chain-laid}
 use Rattle.running.specs.Waiting.{closesAt}
 use Rattle.window.specs.Opening.{openSpan, closesAfter}
-use Rattle.window.specs.Ending.{firstLinkIn, piecesIn}
+use Rattle.window.specs.Ending.{piecesIn}
 
 module _ (book : Book) (limits : Within book) (t : List ℕ) (laid : Laid (tablesLayout book) t) where
   -- ── A piece ──
@@ -62,7 +61,7 @@ module _ (book : Book) (limits : Within book) (t : List ℕ) (laid : Laid (table
   -- ── The pieces of a state ──
 
   pub pieces-state : (u : List ℕ) → So (isState book u) → piecesIn t (numberIn book u) ≡ endings book u
-  unfolding piecesIn firstLinkIn tables.firstLinkIn
+  unfolding piecesIn
   pieces-state u state =
       let bytes = within-bytes book limits in
       chain-laid book limits t laid (numberIn book u) (number-below book bytes u state) ∙ ap (endings book) (stateAt-number book bytes u state)

@@ -6,15 +6,11 @@ use Prim.Native.Nat.{ℕ, _+_, _%_}
 use lib.Dec.{ltb}
 use Rattle.tables.specs.Endings.{chain}
 use Rattle.tables.specs.Layout.{roomForPieces}
-use Rattle.tables.specs.Reads.{outIn, endingIn, rankIn, onwardIn, lastIn}
+use Rattle.tables.specs.Reads.{firstLinkIn, rankIn, onwardIn, lastIn}
 use Rattle.marks.specs.Marked.{withMark}
 use Rattle.marks.specs.declared.Marks.{Marks}
 use Rattle.running.specs.Reads.{closingPlaceIn}
 use Rattle.window.specs.Waiting.{withWaitingFrom}
-
--- The link to the first piece of a state, one more than its number; 0 where no keyword is a suffix of the state.
-unfoldable pub firstLinkIn : List ℕ → ℕ → ℕ
-firstLinkIn t state = cond (endingIn t state) (outIn t state + 1) 0
 
 -- How many pieces are looked at in a state at most: as many as a book has at most.
 abbrev pub mostLooked : ℕ

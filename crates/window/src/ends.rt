@@ -6,24 +6,13 @@ ghost use Rattle.tables.specs.Layout.{roomForStates, roomForPieces};
 ghost use Rattle.tables.specs.Reads.{Whole};
 ghost use Rattle.marks.specs.Marked.{noMarks};
 ghost use Rattle.running.specs.Reads.{WholeRunning};
-ghost use Rattle.window.specs.Ending.{firstLinkIn, piecesIn, endedWith, pieceEnded, piecesEnded};
+ghost use Rattle.window.specs.Ending.{piecesIn, endedWith, pieceEnded, piecesEnded};
 use crate::opens::is_past;
 use crate::waits::wait_from;
 use counters::Place;
 use counters::State;
 use marks::Marks;
 use tables::layout::ROOM_FOR_PIECES;
-
-// The link to the first piece whose keyword ends in a state: one more than the piece, 0 where there is none.
-fn first_link(t: &[u8], state: State) -> usize
-    requires { ⌜ (Whole (now t)) × (state .0 < roomForStates) ⌝ }
-    ensures { λ r. ⌜ (r ≡ firstLinkIn (now (t .entry)) (state .0)) × (r ≤ roomForPieces) ⌝ }
-{
-    if tables::has_ending(t, state) {
-        return tables::out(t, state) + 1;
-    }
-    0
-}
 
 // The keyword of a piece ends at a place. Where its window has closed nothing comes of it; a last piece marks its phrase;
 // after another piece the next one waits.
@@ -48,7 +37,7 @@ pub fn pieces_end(t: &[u8], m: &mut [u8], state: State, place: Place) -> Marks
     ensures { λ r. ⌜ endedWith r (now (m .exit)) ≡ piecesEnded (now (t .entry)) (place .0) (endedWith noMarks (now (m .entry))) (piecesIn (now (t .entry)) (state .0)) ⌝ }
 {
     let mut marks = marks::no_marks();
-    let mut link = first_link(t, state);
+    let mut link = tables::first_link(t, state);
     let mut looked = 0;
     while looked < ROOM_FOR_PIECES {
         if link == 0 {

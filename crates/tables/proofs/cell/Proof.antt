@@ -1,9 +1,6 @@
 -- The column is the part of the memory from its place on, and the cell stands in it at twice the state's number.
 -- Assumes nothing.
-use Prim.Native.Nat.{_-_}
-use native.Mathlib.Omega.{arith}
-use lib.ListN.{length}
-use Rattle.tables.proofs.Cells.{cell-in}
+use Rattle.tables.proofs.Cells.{cell-read}
 use borrow.Author.Needs.{needs}
 use Rattle.tables.proofs.cell.Statement.{statement}
 use Rattle.tables.proofs.cell.Tie as tie
@@ -31,8 +28,8 @@ pair-size-requires c κs = search needs
 
 returns : tie.Need-returns
 returns c =
-    let a = c .before .before .before .before .before .args in
-    (cc (cell-in (a .t .now) (a .column) (a .state .0) (length (a .t .now) - a .column) (omega arith)), omega arith)
+    let start = c .before .before .before .before .before in
+    (cell-read (start .args .t .now) (start .args .column) (start .pre) (c .before .before .index .ensures .0) (c .before .get2 .ensures) (c .pair-size .ensures .0), c .pair-size .ensures .1)
 
 pub cell-spec : {M : Type 1} → statement M
 cell-spec =

@@ -1,9 +1,6 @@
 -- The two returns are the two sides of the test in `backIn`.
 -- Assumes nothing.
-use mathlib.Core.Path.{_≡_}
-use native.Mathlib.Omega.{arith}
-use Rattle.tables.specs.Reads.{failIn}
-use Rattle.tables.proofs.Followed.{back-fail, back-root}
+use Rattle.tables.proofs.Followed.{followed, not-followed}
 use borrow.Author.Needs.{needs}
 use Rattle.tables.proofs.failure.Statement.{statement}
 use Rattle.tables.proofs.failure.Tie as tie
@@ -28,18 +25,14 @@ numbered-requires c κs = search needs
 
 returns : tie.Need-returns
 returns c =
-    let a = c .before .before .before .before .before .before .args in
-    let read : c .before .before .before .get2 .result ≡ failIn (a .t .now) (a .state .0) = cc in
-    (cc (back-fail (a .t .now) (a .state .0) (omega arith)), omega arith)
+    followed (c .before .before .before .before .before .before .args .t .now) (c .before .before .before .before .index .ensures .0) (c .before .before .before .get2 .ensures) (c .before .before .number .ensures) (c .before .if1 .taken) (c .numbered .ensures)
 
 root-requires : tie.Need-root-requires
 root-requires c κs = search needs
 
 returns-2 : tie.Need-returns-2
 returns-2 c =
-    let a = c .before .before .before .before .before .before .args in
-    let read : c .before .before .before .get2 .result ≡ failIn (a .t .now) (a .state .0) = cc in
-    (cc (back-root (a .t .now) (a .state .0) (omega arith)), omega arith)
+    not-followed (c .before .before .before .before .before .before .args .t .now) (c .before .before .before .before .index .ensures .0) (c .before .before .before .get2 .ensures) (c .before .before .number .ensures) (c .before .if1 .left) (c .root .ensures)
 
 pub failure-spec : {M : Type 1} → statement M
 failure-spec =

@@ -6,7 +6,7 @@ use Prim.Native.Nat.{_≤_, _-_}
 use lib.ListN.{length}
 use Rattle.running.specs.Layout.{runningSize}
 use Rattle.window.specs.Begun.{firstsWaiting, windowsBegun}
-use Rattle.window.proofs.Begun.{firsts-more}
+use Rattle.window.proofs.Begun.{firsts-turn}
 use Rattle.window.proofs.begins.begin_windows.Statement.{statement}
 use Rattle.window.proofs.begins.begin_windows.Tie as tie
 
@@ -39,7 +39,7 @@ loop-again : tie.Need-loop-again Inv-loop μ-loop
 loop-again c =
     let at = c .before .before .before .before .before in
     let a = at .before .before .before .before .before .before .before .before .args in
-    (omega arith, cc (firsts-more (a .t .now) (at .before .before .before .before .clear .last .0) (at .loop .piece)), omega arith)
+    (omega arith, firsts-turn (a .t .now) (at .before .before .before .before .clear .last .0) (at .loop .piece) (at .loop .inv .1) (c .before .before .wait-if-first .ensures), omega arith)
 
 same-length : tie.Need-same-length Inv-loop μ-loop
 same-length c = omega arith

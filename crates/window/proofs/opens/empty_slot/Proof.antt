@@ -1,7 +1,11 @@
 -- The bytes of the slot become zero, and then its flag.
 -- Assumes nothing.
+use mathlib.Core.Path.{ap}
+use mathlib.Core.List.{List}
+use Prim.Native.Nat.{ℕ, _+_}
 use native.Mathlib.Omega.{arith}
-use lib.ListN.{length-set}
+use lib.ListN.{set, length-set}
+use Rattle.running.specs.Layout.{flagAt}
 use Rattle.window.specs.Opening.{slotEmptied}
 use Rattle.window.proofs.opens.empty_slot.Statement.{statement}
 use Rattle.window.proofs.opens.empty_slot.Tie as tie
@@ -26,7 +30,7 @@ same-length c = simp length-set (omega arith)
 
 returns : tie.Need-returns
 unfolding slotEmptied
-returns c = cc
+returns c = ap (λ (m : List ℕ). set m (flagAt + c .before .before .before .before .before .args .slot) 0) (c .before .before .clear .ensures)
 
 pub empty-slot-spec : {M : Type 1} → statement M
 empty-slot-spec =
