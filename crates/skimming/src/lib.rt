@@ -23,6 +23,8 @@ const EIGHT: usize = 8;
 
 const EIGHT_PLACES: u64 = 8;
 
+const EIGHT_APART: usize = 32;
+
 // The last slot from which on eight flags stand.
 const LAST_SLOT: usize = 248;
 
@@ -98,15 +100,19 @@ fn by_eights(t: &[u8], m: &[u8], ahead: &[u16], from: Looking) -> Looking
         if ENDING <= sum {
             return looking;
         }
-        if lent::get8(m, FLAG + slot) != 0 {
+        let flags = lent::get8(m, FLAG + slot);
+        if flags != 0 {
             return looking;
         }
         let place = looking.place.later(EIGHT_PLACES);
+        let at = looking.at + EIGHT_APART;
+        let left = looking.left - EIGHT;
+        let gains = looking.gains + sum;
         looking = Looking {
-            at: looking.at + EIGHT * APART,
-            left: looking.left - EIGHT,
+            at,
+            left,
             place,
-            gains: looking.gains + sum,
+            gains,
             event: false,
         };
     }
