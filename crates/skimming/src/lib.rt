@@ -18,14 +18,14 @@ mod infos; // infos.rt: the sum of what the infos of eight states say
 // The states of a part stand four numbers apart.
 const APART: usize = 4;
 
-// So many places are looked at at once.
+// How many places are gone over together, as a count of bytes, of places, and of the numbers in which their states stand.
 const EIGHT: usize = 8;
 
 const EIGHT_PLACES: u64 = 8;
 
 const EIGHT_APART: usize = 32;
 
-// The last slot from which on eight flags stand.
+// The last slot from which on there are eight flags in a row.
 const LAST_SLOT: usize = 248;
 
 // A sum of infos from here on may have an ending in it.
