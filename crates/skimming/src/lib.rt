@@ -18,12 +18,14 @@ mod infos; // infos.rt: the sum of what the infos of eight states say
 // The states of a part stand four numbers apart.
 const APART: usize = 4;
 
-// So many places are looked at at once.
+// How many places are gone over together, as a count of bytes, of places, and of the numbers in which their states stand.
 const EIGHT: usize = 8;
 
 const EIGHT_PLACES: u64 = 8;
 
-// The last slot from which on eight flags stand.
+const EIGHT_APART: usize = 32;
+
+// The last slot from which on there are eight flags in a row.
 const LAST_SLOT: usize = 248;
 
 // A sum of infos from here on may have an ending in it.
@@ -98,15 +100,19 @@ fn by_eights(t: &[u8], m: &[u8], ahead: &[u16], from: Looking) -> Looking
         if ENDING <= sum {
             return looking;
         }
-        if lent::get8(m, FLAG + slot) != 0 {
+        let flags = lent::get8(m, FLAG + slot);
+        if flags != 0 {
             return looking;
         }
         let place = looking.place.later(EIGHT_PLACES);
+        let at = looking.at + EIGHT_APART;
+        let left = looking.left - EIGHT;
+        let gains = looking.gains + sum;
         looking = Looking {
-            at: looking.at + EIGHT * APART,
-            left: looking.left - EIGHT,
+            at,
+            left,
             place,
-            gains: looking.gains + sum,
+            gains,
             event: false,
         };
     }

@@ -70,16 +70,13 @@ later-requires c κs =
     let at = c .before .before .before .before .before .before .before .before .before in
     omega (arith, at .loop .inv .1 .place, at .before .before .before .before .pre .early)
 
-mul-t12 : tie.Need-mul-t12 Inv-loop μ-loop
-mul-t12 c = omega arith
-
-add-t13 : tie.Need-add-t13 Inv-loop μ-loop
-add-t13 c =
+add-at : tie.Need-add-at Inv-loop μ-loop
+add-at c =
     let at = c .before .before .before .before .before .before .before .before .before .before .before in
     omega (arith, at .loop .inv .1 .at, at .before .before .before .before .pre .near)
 
-add-t11 : tie.Need-add-t11 Inv-loop μ-loop
-add-t11 c =
+add-gains : tie.Need-add-gains Inv-loop μ-loop
+add-gains c =
     let at = c .before .before .before .before .before .before .before .before .before .before .before .before .before in
     omega (arith, at .loop .inv .1 .few-gains, at .before .before .before .before .pre .few-gains)
 
@@ -127,9 +124,8 @@ by-eights-spec =
     get8-requires
     returns-3
     later-requires
-    mul-t12
-    add-t13
-    add-t11
+    add-at
+    add-gains
     loop-less
     loop-again
     returns-4)
