@@ -38,6 +38,7 @@ pub record AgainReady (t part : List ℕ) (from quarter k state : ℕ) (ahead : 
   pub few-states : stateCountIn t ≤ roomForStates
   pub some-dense : 1 ≤ denseIn t
   pub few-dense : denseIn t ≤ stateCountIn t
+  pub columns : columnsFit t ≡ true
   pub quarters : k < 4
   pub inside : state < stateCountIn t
   pub within : from + quarter ≤ length part
