@@ -99,15 +99,15 @@ module _ (ahead : List ℕ) (at : ℕ) (cursors : Cursors) where
       each-quarter
       (λ k. getD (withFour ahead at cursors) (at + k) 0 ≡ cursor cursors k)
       (ap (λ (p : ℕ). getD (withFour ahead at cursors) p 0) none
-      ∙ getD-set-other three (at + 3) at (cursors .fourth) 0 (λ e. omega arith) ∙ getD-set-other two (at + 2) at (cursors .third) 0 (λ e. omega arith)
+      ∙ getD-set-other three (at + 3) at _ 0 (λ e. omega arith) ∙ getD-set-other two (at + 2) at (cursors .third) 0 (λ e. omega arith)
       ∙ getD-set-other one (at + 1) at (cursors .second) 0 (λ e. omega arith) ∙ getD-set-same ahead at (cursors .first) 0 (omega arith))
-      (getD-set-other three (at + 3) (at + 1) (cursors .fourth) 0 (λ e. omega arith) ∙ getD-set-other two (at + 2) (at + 1) (cursors .third) 0 (λ e. omega arith)
+      (getD-set-other three (at + 3) (at + 1) _ 0 (λ e. omega arith) ∙ getD-set-other two (at + 2) (at + 1) (cursors .third) 0 (λ e. omega arith)
       ∙ getD-set-same one (at + 1) (cursors .second) 0 (simp length-set (omega arith)))
-      (getD-set-other three (at + 3) (at + 2) (cursors .fourth) 0 (λ e. omega arith) ∙ getD-set-same two (at + 2) (cursors .third) 0 (simp length-set (omega arith)))
-      (getD-set-same three (at + 3) (cursors .fourth) 0 (simp length-set (omega arith)))
+      (getD-set-other three (at + 3) (at + 2) _ 0 (λ e. omega arith) ∙ getD-set-same two (at + 2) (cursors .third) 0 (simp length-set (omega arith)))
+      (getD-set-same three (at + 3) _ 0 (simp length-set (omega arith)))
 
   pub four-before : (p : ℕ) → p < at → getD (withFour ahead at cursors) p 0 ≡ getD ahead p 0
   unfolding withFour
   four-before p l =
-      getD-set-other three (at + 3) p (cursors .fourth) 0 (λ e. omega arith) ∙ getD-set-other two (at + 2) p (cursors .third) 0 (λ e. omega arith)
+      getD-set-other three (at + 3) p _ 0 (λ e. omega arith) ∙ getD-set-other two (at + 2) p (cursors .third) 0 (λ e. omega arith)
       ∙ getD-set-other one (at + 1) p (cursors .second) 0 (λ e. omega arith) ∙ getD-set-other ahead at p (cursors .first) 0 (λ e. omega arith)

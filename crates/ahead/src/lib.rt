@@ -17,7 +17,7 @@ mod room; // room.rt: whether the columns leave room for all cells
 
 pub use room::columns_fit;
 
-// How many bytes before its quarter a cursor begins to warm up. No state of a book is longer, so that in the letters of a book it comes to the right one.
+// How many bytes before its quarter a cursor begins to warm up. No state of a book is longer, so that with the tables of a book the guess is right.
 const WARM_UP: usize = 32;
 
 // How many quarters there are: so far from each other stand the numbers of one.
@@ -39,6 +39,7 @@ struct Columns {
     fourth: usize,
 }
 
+// Whether all four are below a number.
 fn all_below(limit: usize, cursors: Cursors) -> bool
     ensures { λ r. ⌜ (r ≡ true → Below limit cursors) ⌝ }
 {
@@ -54,7 +55,7 @@ fn all_below(limit: usize, cursors: Cursors) -> bool
     cursors.fourth < limit
 }
 
-// Read before anything is known of the states, for none of them matters to it.
+// The columns of the four bytes. They do not depend on the states, so they are read before these are looked at, and both ways of a turn use them.
 fn columns_at(
     t: &[u8],
     states: usize,
@@ -206,7 +207,7 @@ fn put_four(ahead: &mut [u16], at: usize, cursors: Cursors)
     ahead[at + 3] = cursors.fourth as u16;
 }
 
-// So many turns.
+// So many turns, from the byte of the first quarter on. Each writes four numbers.
 fn run_four(
     t: &[u8],
     part: &[u8],

@@ -72,7 +72,7 @@ mend-requires-2 c κs =
         few-dense = ready .few-dense;
         columns = ready .columns;
         quarters = omega arith;
-        inside = mended-inside (a .t .now) (a .part .now) _ _ _ _ _ _ _ mended (ran .inside .first);
+        inside = omega (arith, mended-inside (a .t .now) (a .part .now) _ _ _ _ _ _ _ mended (ran .inside .first));
         within = omega (arith, ready .within);
         room = omega (arith, ready .room, guess .ensures .2, ran .long, mended .long);
       },
@@ -102,7 +102,7 @@ mend-requires-3 c κs =
         few-dense = ready .few-dense;
         columns = ready .columns;
         quarters = omega arith;
-        inside = mended-inside (a .t .now) (a .part .now) _ _ _ _ _ _ _ again (mended-inside (a .t .now) (a .part .now) _ _ _ _ _ _ _ mended (ran .inside .first));
+        inside = mended-inside (a .t .now) (a .part .now) _ _ _ _ _ _ _ again (omega (arith, mended-inside (a .t .now) (a .part .now) _ _ _ _ _ _ _ mended (ran .inside .first)));
         within = omega (arith, ready .within);
         room = omega (arith, ready .room, guess .ensures .2, ran .long, mended .long, again .long);
       },
