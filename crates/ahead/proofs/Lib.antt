@@ -1,4 +1,4 @@
-pub mod Room
+pub mod Fits
 pub mod Turns
 pub mod Runs
 pub mod Quarters

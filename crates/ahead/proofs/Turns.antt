@@ -14,19 +14,25 @@ use Rattle.gliding.specs.Quick.{soughtIn, quickIn}
 use Rattle.gliding.proofs.Seeking.{row-cell, sought-dense}
 use Rattle.gliding.proofs.Turns.{quick-found, quick-inside}
 use Rattle.ahead.specs.Columns.{columnsFit}
-use Rattle.ahead.specs.Cursors.{cursor, Below, Turned, withFour}
+use Rattle.ahead.specs.Cursors.{cursor, Below, ColumnOf, Turned, withFour}
 use Rattle.ahead.specs.declared.Cursors.{Cursors}
-use Rattle.ahead.proofs.Room.{columns-within}
+use Rattle.ahead.proofs.Fits.{columns-within}
 
 -- ── One cell ──
 
-module _ (t : List ℕ) (dense index byte : ℕ) (fit : columnsFit t ≡ true) (rows : dense ≡ denseIn t) (row : index < dense) (is-byte : byte < 256) where
-  pub cell-room : Whole t → dense ≤ roomForStates → columnIn t byte + 2 * index + 2 ≤ length t
-  cell-room whole few = omega (arith, columns-within t fit byte is-byte)
+-- Where the columns fit, that of a byte does.
+pub column-of : (t : List ℕ) (dense byte column : ℕ) → columnsFit t ≡ true → dense ≡ denseIn t → dense ≤ roomForStates → byte < 256 → column ≡ columnIn t byte
+    → ColumnOf t dense byte column
+column-of t dense byte column fit rows few small is = record { small = small; is = is; fits = omega (arith, columns-within t fit byte small) }
 
-  pub cell-found : (states found : ℕ) → found ≡ cellIn t (columnIn t byte) index → found ≡ soughtIn t states dense index byte
+module _ (t : List ℕ) (dense index byte column : ℕ) (of : ColumnOf t dense byte column) (row : index < dense) where
+  pub cell-room : Whole t → column + 2 * index + 2 ≤ length t
+  cell-room whole = omega (arith, of .fits)
+
+  pub cell-found : (states found : ℕ) → found ≡ cellIn t column index → found ≡ soughtIn t states dense index byte
   cell-found states found e =
-      e ∙ sym (sought-dense t states dense byte (omega arith) index row ∙ row-cell t states dense byte is-byte index (omega (arith, columns-within t fit byte is-byte)))
+      e ∙ ap (λ (c : ℕ). cellIn t c index) (of .is)
+      ∙ sym (sought-dense t states dense byte (omega arith) index row ∙ row-cell t states dense byte (of .small) index (omega (arith, of .is, of .fits)))
 
 -- ── The next state ──
 
@@ -93,15 +99,15 @@ module _ (ahead : List ℕ) (at : ℕ) (cursors : Cursors) where
       each-quarter
       (λ k. getD (withFour ahead at cursors) (at + k) 0 ≡ cursor cursors k)
       (ap (λ (p : ℕ). getD (withFour ahead at cursors) p 0) none
-      ∙ getD-set-other three (at + 3) at (cursors .fourth) 0 (λ e. omega arith) ∙ getD-set-other two (at + 2) at (cursors .third) 0 (λ e. omega arith)
+      ∙ getD-set-other three (at + 3) at _ 0 (λ e. omega arith) ∙ getD-set-other two (at + 2) at (cursors .third) 0 (λ e. omega arith)
       ∙ getD-set-other one (at + 1) at (cursors .second) 0 (λ e. omega arith) ∙ getD-set-same ahead at (cursors .first) 0 (omega arith))
-      (getD-set-other three (at + 3) (at + 1) (cursors .fourth) 0 (λ e. omega arith) ∙ getD-set-other two (at + 2) (at + 1) (cursors .third) 0 (λ e. omega arith)
+      (getD-set-other three (at + 3) (at + 1) _ 0 (λ e. omega arith) ∙ getD-set-other two (at + 2) (at + 1) (cursors .third) 0 (λ e. omega arith)
       ∙ getD-set-same one (at + 1) (cursors .second) 0 (simp length-set (omega arith)))
-      (getD-set-other three (at + 3) (at + 2) (cursors .fourth) 0 (λ e. omega arith) ∙ getD-set-same two (at + 2) (cursors .third) 0 (simp length-set (omega arith)))
-      (getD-set-same three (at + 3) (cursors .fourth) 0 (simp length-set (omega arith)))
+      (getD-set-other three (at + 3) (at + 2) _ 0 (λ e. omega arith) ∙ getD-set-same two (at + 2) (cursors .third) 0 (simp length-set (omega arith)))
+      (getD-set-same three (at + 3) _ 0 (simp length-set (omega arith)))
 
   pub four-before : (p : ℕ) → p < at → getD (withFour ahead at cursors) p 0 ≡ getD ahead p 0
   unfolding withFour
   four-before p l =
-      getD-set-other three (at + 3) p (cursors .fourth) 0 (λ e. omega arith) ∙ getD-set-other two (at + 2) p (cursors .third) 0 (λ e. omega arith)
+      getD-set-other three (at + 3) p _ 0 (λ e. omega arith) ∙ getD-set-other two (at + 2) p (cursors .third) 0 (λ e. omega arith)
       ∙ getD-set-other one (at + 1) p (cursors .second) 0 (λ e. omega arith) ∙ getD-set-other ahead at p (cursors .first) 0 (λ e. omega arith)

@@ -15,7 +15,7 @@ use Rattle.ahead.specs.declared.Cursors.{Cursors}
 pub record Listed (t part : List ℕ) (from state count k : ℕ) (ahead : List ℕ) : Type 0 where
   pub each : (j : ℕ) → j < count → getD ahead (4 * j + k) 0 ≡ afterFrom t part from state (j + 1)
 
--- What holds of tables and numbers wherever quarters are looked up.
+-- What holds before so many turns: the tables have their size, their counts are in range and their columns fit, and part and numbers have room for the turns.
 pub record RunReady (t part : List ℕ) (first quarter count : ℕ) (ahead : List ℕ) : Type 0 where
   pub tables : Whole t
   pub few-states : stateCountIn t ≤ roomForStates
@@ -38,6 +38,7 @@ pub record AgainReady (t part : List ℕ) (from quarter k state : ℕ) (ahead : 
   pub few-states : stateCountIn t ≤ roomForStates
   pub some-dense : 1 ≤ denseIn t
   pub few-dense : denseIn t ≤ stateCountIn t
+  pub columns : columnsFit t ≡ true
   pub quarters : k < 4
   pub inside : state < stateCountIn t
   pub within : from + quarter ≤ length part

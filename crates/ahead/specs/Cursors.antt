@@ -5,9 +5,10 @@ use mathlib.Core.List.{List}
 use Prim.Native.Nat.{ℕ, zero, suc, _+_, _*_, _≤_, _<_}
 use lib.ListN.{length, getD, set}
 use Rattle.tables.specs.Layout.{roomForStates}
-use Rattle.tables.specs.Reads.{Whole, stateCountIn, denseIn}
+use Rattle.tables.specs.Reads.{Whole, stateCountIn, denseIn, columnIn}
 use Rattle.gliding.specs.Quick.{soughtIn, quickIn}
 use Rattle.ahead.specs.Columns.{columnsFit}
+use Rattle.ahead.specs.declared.Columns.{Columns}
 use Rattle.ahead.specs.declared.Cursors.{Cursors}
 
 -- The cursor over a quarter, the first being 0.
@@ -24,6 +25,12 @@ pub record Below (limit : ℕ) (cursors : Cursors) : Type 0 where
   pub third : cursors .third < limit
   pub fourth : cursors .fourth < limit
 
+-- The column of a byte, in which a cell for each dense state fits.
+pub record ColumnOf (t : List ℕ) (dense byte column : ℕ) : Type 0 where
+  pub small : byte < 256
+  pub is : column ≡ columnIn t byte
+  pub fits : column + 2 * dense ≤ 49152
+
 -- What holds before one turn: the tables have their size, their counts are in range and their columns fit, the cursors are states, and each quarter has its byte.
 pub record TurnReady (t part : List ℕ) (states dense at quarter : ℕ) (from : Cursors) : Type 0 where
   pub tables : Whole t
@@ -35,6 +42,13 @@ pub record TurnReady (t part : List ℕ) (states dense at quarter : ℕ) (from :
   pub columns : columnsFit t ≡ true
   pub inside : Below states from
   pub within : at + 3 * quarter < length part
+
+-- The column of the byte of each quarter.
+pub record Columned (t part : List ℕ) (dense at quarter : ℕ) (columns : Columns) : Type 0 where
+  pub first : ColumnOf t dense (getD part at 0) (columns .first)
+  pub second : ColumnOf t dense (getD part (at + quarter) 0) (columns .second)
+  pub third : ColumnOf t dense (getD part (at + 2 * quarter) 0) (columns .third)
+  pub fourth : ColumnOf t dense (getD part (at + 3 * quarter) 0) (columns .fourth)
 
 -- What is found for the byte of each quarter.
 pub record Found (t part : List ℕ) (states dense at quarter : ℕ) (from to : Cursors) : Type 0 where

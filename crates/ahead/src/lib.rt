@@ -6,18 +6,18 @@ ghost use Prim.Native.Nat.{_+_, _*_, _≤_, _<_};
 ghost use lib.Dec.{ltb};
 ghost use lib.ListN.{length};
 ghost use Rattle.tables.specs.Layout.{roomForStates};
-ghost use Rattle.tables.specs.Reads.{Whole, stateCountIn, columnIn, cellIn};
+ghost use Rattle.tables.specs.Reads.{Whole, stateCountIn, cellIn};
 ghost use Rattle.gliding.specs.Quick.{quickIn};
 ghost use Rattle.gliding.specs.Foreseen.{afterFrom, Looked};
-ghost use Rattle.ahead.specs.Cursors.{Below, TurnReady, Found, Turned, withFour};
+ghost use Rattle.ahead.specs.Cursors.{Below, ColumnOf, TurnReady, Columned, Found, Turned, withFour};
 ghost use Rattle.ahead.specs.Ahead.{Listed, RunReady, Ran, AgainReady, Mended, LookReady};
 use counters::State;
 
-mod columns; // columns.rt: whether the columns leave room for all cells
+mod room; // room.rt: whether the columns leave room for all cells
 
-pub use columns::columns_fit;
+pub use room::columns_fit;
 
-// How many bytes before its quarter a cursor begins to warm up. No state of a book is longer, so that in the letters of a book it comes to the right one.
+// How many bytes before its quarter a cursor begins to warm up. No state of a book is longer, so that with the tables of a book the guess is right.
 const WARM_UP: usize = 32;
 
 // How many quarters there are: so far from each other stand the numbers of one.
@@ -31,6 +31,15 @@ struct Cursors {
     fourth: usize,
 }
 
+// Where the columns begin in which the next byte of each quarter has its cells.
+struct Columns {
+    first: usize,
+    second: usize,
+    third: usize,
+    fourth: usize,
+}
+
+// Whether all four are below a number.
 fn all_below(limit: usize, cursors: Cursors) -> bool
     ensures { λ r. ⌜ (r ≡ true → Below limit cursors) ⌝ }
 {
@@ -46,12 +55,32 @@ fn all_below(limit: usize, cursors: Cursors) -> bool
     cursors.fourth < limit
 }
 
-// The cell of a dense state in the column of a byte. The column is a part of the memory.
-fn cell_of(t: &[u8], index: usize, byte: u8) -> usize
-    requires { ⌜ (Whole (now t)) × (columnIn (now t) byte + 2 * index + 2 ≤ length (now t)) ⌝ }
-    ensures { λ r. ⌜ r ≡ cellIn (now (t .entry)) (columnIn (now (t .entry)) byte) index ⌝ }
+// The columns of the four bytes. They do not depend on the states, so they are read before these are looked at, and both ways of a turn use them.
+fn columns_at(
+    t: &[u8],
+    states: usize,
+    dense: usize,
+    part: &[u8],
+    at: usize,
+    quarter: usize,
+    from: Cursors,
+) -> Columns
+    requires { ⌜ TurnReady (now t) (now part) states dense at quarter from ⌝ }
+    ensures { λ r. ⌜ Columned (now (t .entry)) (now (part .entry)) dense at quarter r ⌝ }
 {
-    let column = tables::column(t, byte);
+    Columns {
+        first: tables::column(t, part[at]),
+        second: tables::column(t, part[at + quarter]),
+        third: tables::column(t, part[at + 2 * quarter]),
+        fourth: tables::column(t, part[at + 3 * quarter]),
+    }
+}
+
+// The cell of a state in the column that begins at a place. The column is a part of the memory.
+fn cell_of(t: &[u8], column: usize, index: usize) -> usize
+    requires { ⌜ column + 2 * index + 2 ≤ length (now t) ⌝ }
+    ensures { λ r. ⌜ r ≡ cellIn (now (t .entry)) column index ⌝ }
+{
     lent::pair_size(lent::get2(&t[column..], 2 * index))
 }
 
@@ -63,16 +92,17 @@ fn four_cells(
     part: &[u8],
     at: usize,
     quarter: usize,
+    columns: Columns,
     from: Cursors,
 ) -> Cursors
-    requires { ⌜ (TurnReady (now t) (now part) states dense at quarter from) × (Below dense from) ⌝ }
+    requires { ⌜ (TurnReady (now t) (now part) states dense at quarter from) × (Columned (now t) (now part) dense at quarter columns) × (Below dense from) ⌝ }
     ensures { λ r. ⌜ Found (now (t .entry)) (now (part .entry)) states dense at quarter from r ⌝ }
 {
     Cursors {
-        first: cell_of(t, from.first, part[at]),
-        second: cell_of(t, from.second, part[at + quarter]),
-        third: cell_of(t, from.third, part[at + 2 * quarter]),
-        fourth: cell_of(t, from.fourth, part[at + 3 * quarter]),
+        first: cell_of(t, columns.first, from.first),
+        second: cell_of(t, columns.second, from.second),
+        third: cell_of(t, columns.third, from.third),
+        fourth: cell_of(t, columns.fourth, from.fourth),
     }
 }
 
@@ -83,11 +113,14 @@ fn state_or_root(states: usize, found: usize) -> usize
     if found < states { found } else { 0 }
 }
 
-// The next state, whatever the state.
-fn next_of(t: &[u8], states: usize, dense: usize, index: usize, byte: u8) -> usize
-    requires { ⌜ (Whole (now t)) × (states ≤ roomForStates) × (1 ≤ dense) × (dense ≤ states) × (index < states) ⌝ }
+// The next state, whatever the state: its cell where it is dense, and else what is sought.
+fn next_of(t: &[u8], states: usize, dense: usize, index: usize, byte: u8, column: usize) -> usize
+    requires { ⌜ (Whole (now t)) × (states ≤ roomForStates) × (1 ≤ dense) × (dense ≤ states) × (index < states) × (ColumnOf (now t) dense byte column) ⌝ }
     ensures { λ r. ⌜ (r ≡ quickIn (now (t .entry)) states dense index byte) × (r < states) ⌝ }
 {
+    if index < dense {
+        return state_or_root(states, cell_of(t, column, index));
+    }
     state_or_root(states, gliding::sought(t, states, dense, index, byte))
 }
 
@@ -99,16 +132,38 @@ fn deep_turn(
     part: &[u8],
     at: usize,
     quarter: usize,
+    columns: Columns,
     from: Cursors,
 ) -> Cursors
-    requires { ⌜ TurnReady (now t) (now part) states dense at quarter from ⌝ }
+    requires { ⌜ (TurnReady (now t) (now part) states dense at quarter from) × (Columned (now t) (now part) dense at quarter columns) ⌝ }
     ensures { λ r. ⌜ Turned (now (t .entry)) (now (part .entry)) states dense at quarter from r ⌝ }
 {
     Cursors {
-        first: next_of(t, states, dense, from.first, part[at]),
-        second: next_of(t, states, dense, from.second, part[at + quarter]),
-        third: next_of(t, states, dense, from.third, part[at + 2 * quarter]),
-        fourth: next_of(t, states, dense, from.fourth, part[at + 3 * quarter]),
+        first: next_of(t, states, dense, from.first, part[at], columns.first),
+        second: next_of(
+            t,
+            states,
+            dense,
+            from.second,
+            part[at + quarter],
+            columns.second,
+        ),
+        third: next_of(
+            t,
+            states,
+            dense,
+            from.third,
+            part[at + 2 * quarter],
+            columns.third,
+        ),
+        fourth: next_of(
+            t,
+            states,
+            dense,
+            from.fourth,
+            part[at + 3 * quarter],
+            columns.fourth,
+        ),
     }
 }
 
@@ -125,10 +180,11 @@ fn turn(
     requires { ⌜ TurnReady (now t) (now part) states dense at quarter from ⌝ }
     ensures { λ r. ⌜ Turned (now (t .entry)) (now (part .entry)) states dense at quarter from r ⌝ }
 {
+    let columns = columns_at(t, states, dense, part, at, quarter, from);
     if !all_below(dense, from) {
-        return deep_turn(t, states, dense, part, at, quarter, from);
+        return deep_turn(t, states, dense, part, at, quarter, columns, from);
     }
-    let found = four_cells(t, states, dense, part, at, quarter, from);
+    let found = four_cells(t, states, dense, part, at, quarter, columns, from);
     if all_below(states, found) {
         return found;
     }
@@ -151,7 +207,7 @@ fn put_four(ahead: &mut [u16], at: usize, cursors: Cursors)
     ahead[at + 3] = cursors.fourth as u16;
 }
 
-// So many turns.
+// So many turns, from the byte of the first quarter on. Each writes four numbers.
 fn run_four(
     t: &[u8],
     part: &[u8],
@@ -230,7 +286,8 @@ fn run_again(
     let mut index = state;
     let mut i: usize = 0;
     while i < quarter {
-        index = next_of(t, states, dense, index, part[from + i]);
+        let byte = part[from + i];
+        index = next_of(t, states, dense, index, byte, tables::column(t, byte));
         ahead[QUARTERS * i + k] = index as u16;
         i += 1;
     }

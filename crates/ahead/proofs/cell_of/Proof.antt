@@ -8,9 +8,6 @@ use borrow.Author.Needs.{needs}
 use Rattle.ahead.proofs.cell_of.Statement.{statement}
 use Rattle.ahead.proofs.cell_of.Tie as tie
 
-column-requires : tie.Need-column-requires
-column-requires c κs = search needs
-
 sub-get2 : tie.Need-sub-get2
 sub-get2 c = search needs
 
@@ -31,15 +28,13 @@ pair-size-requires c κs = search needs
 
 returns : tie.Need-returns
 returns c =
-    let a = c .before .before .before .before .before .args in
-    let column = c .before .before .before .column .result in
-    cc (cell-in (a .t .now) column (a .index) (length (a .t .now) - column) (omega arith))
+    let a = c .before .before .before .before .args in
+    cc (cell-in (a .t .now) (a .column) (a .index) (length (a .t .now) - a .column) (omega arith))
 
 pub cell-of-spec : {M : Type 1} → statement M
 cell-of-spec =
     tie.close
     (tie.spec
-    column-requires
     sub-get2
     part-get2-start
     part-get2-end

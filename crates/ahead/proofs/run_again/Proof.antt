@@ -1,10 +1,13 @@
 -- After so many turns the cursor has come so far in its quarter, and so many states of it are listed.
 -- Assumes nothing.
 use mathlib.Core.Path.{_≡_, refl}
-use Prim.Native.Nat.{_-_, _≤_, _<_}
+use Prim.Native.Nat.{_+_, _-_, _≤_, _<_}
 use native.Mathlib.Omega.{arith}
+use lib.ListN.{getD}
+use Rattle.tables.specs.Layout.{roomForStates}
 use Rattle.tables.specs.Reads.{stateCountIn, denseIn}
 use Rattle.ahead.specs.Ahead.{Mended}
+use Rattle.ahead.proofs.Turns.{column-of}
 use Rattle.ahead.proofs.Runs.{mended-none, mended-more}
 use Rattle.ahead.proofs.run_again.Statement.{statement}
 use Rattle.ahead.proofs.run_again.Tie as tie
@@ -27,32 +30,46 @@ loop-holds c =
     let a = entry .args in
     (omega arith, c .before .state-count .ensures .0, c .dense .ensures .0, omega (arith, entry .pre .inside, c .before .state-count .ensures .0), mended-none (a .t .now) (a .part .now) (a .from) (a .k) (a .state) (a .ahead .now))
 
-add-next-of : tie.Need-add-next-of Inv-loop μ-loop
-add-next-of c = omega (arith, c .before .before .before .before .before .before .before .pre .within)
+add-byte : tie.Need-add-byte Inv-loop μ-loop
+add-byte c = omega (arith, c .before .before .before .before .before .before .before .pre .within)
 
-shared-slice-read-next-of : tie.Need-shared-slice-read-next-of Inv-loop μ-loop
-shared-slice-read-next-of c = omega (arith, c .before .before .before .before .before .before .before .before .pre .within)
+shared-slice-read-byte : tie.Need-shared-slice-read-byte Inv-loop μ-loop
+shared-slice-read-byte c = omega (arith, c .before .before .before .before .before .before .before .before .pre .within)
+
+column-requires : tie.Need-column-requires Inv-loop μ-loop
+column-requires c κs = c .before .before .before .before .before .before .before .before .pre .tables
 
 next-of-requires : tie.Need-next-of-requires Inv-loop μ-loop
 next-of-requires c κs =
-    let ready = c .before .before .before .before .before .before .before .before .pre in
-    let inv = c .before .before .loop .inv in
-    (ready .tables, omega (arith, inv .1, ready .few-states), omega (arith, inv .2, ready .some-dense), omega (arith, inv .1, inv .2, ready .few-dense), inv .3)
+    let entry = c .before .before .before .before .before .before .before .before .before in
+    let a = entry .args in
+    let ready = entry .pre in
+    let at = c .before .before .before in
+    let inv = at .loop .inv in
+    let few : at .before .dense .result ≤ roomForStates = omega (arith, inv .1, inv .2, ready .few-dense, ready .few-states) in
+    let place = a .from + at .loop .i in (
+      ready .tables,
+      omega (arith, inv .1, ready .few-states),
+      omega (arith, inv .2, ready .some-dense),
+      omega (arith, inv .1, inv .2, ready .few-dense),
+      inv .3,
+      column-of (a .t .now) _ (getD (a .part .now) place 0) _ (ready .columns) (inv .2) few (omega (arith, c .before .shared-slice-known3 .given place)) (c .column .ensures .0),
+    )
 
 cast-ahead : tie.Need-cast-ahead Inv-loop μ-loop
-cast-ahead c = omega (arith, c .next-of .ensures .1, c .before .before .before .loop .inv .1, c .before .before .before .before .before .before .before .before .before .pre .few-states)
+cast-ahead c = omega (arith, c .next-of .ensures .1, c .before .before .before .before .loop .inv .1, c .before .before .before .before .before .before .before .before .before .before .pre .few-states)
 
 mul-ahead : tie.Need-mul-ahead Inv-loop μ-loop
 mul-ahead c = omega arith
 
 add-ahead : tie.Need-add-ahead Inv-loop μ-loop
-add-ahead c = omega (arith, c .before .before .before .before .before .before .before .before .before .pre .quarters)
+add-ahead c = omega (arith, c .before .before .before .before .before .before .before .before .before .before .pre .quarters)
 
 mul-ahead-2 : tie.Need-mul-ahead-2 Inv-loop μ-loop
 mul-ahead-2 c = omega arith
 
 slice-write-ahead : tie.Need-slice-write-ahead Inv-loop μ-loop
-slice-write-ahead c = omega (arith, c .before .before .before .before .before .before .before .before .before .pre .room, c .before .before .before .before .before .before .before .before .before .pre .quarters, c .before .before .before .loop .inv .4 .long, c .before .before .loop-test .taken)
+slice-write-ahead c = omega (arith, c .before .before .before .before .before .before .before .before .before .before .pre .room, c .before .before .before .before .before .before .before .before .before .before .pre .quarters, c .before .before .before .before .loop .inv .4 .long, c .before .before .before .loop-test .taken)
 
 add-i : tie.Need-add-i Inv-loop μ-loop
 add-i c = omega arith
@@ -62,8 +79,8 @@ loop-less c = omega arith
 
 loop-again : tie.Need-loop-again Inv-loop μ-loop
 loop-again c =
-    let at = c .before .before .before in
-    let entry = c .before .before .before .before .before .before .before .before .before in
+    let at = c .before .before .before .before in
+    let entry = c .before .before .before .before .before .before .before .before .before .before in
     let a = entry .args in
     let inv = at .loop .inv in
     let next = c .next-of in (
@@ -72,7 +89,7 @@ loop-again c =
       inv .2,
       next .ensures .1,
       mended-more (a .t .now) (a .part .now) (a .from) (a .k) (a .state) (a .ahead .now) (at .loop .i) _ _ (at .loop .index) (next .result) (at .loop .ahead) _ (inv .1) (inv .2) (entry .pre .quarters) (inv .4)
-          (next .ensures .0) (omega (arith, entry .pre .room, entry .pre .quarters, inv .4 .long, c .before .before .loop-test .taken)) refl,
+          (next .ensures .0) (omega (arith, entry .pre .room, entry .pre .quarters, inv .4 .long, c .before .before .before .loop-test .taken)) refl,
     )
 
 same-length : tie.Need-same-length Inv-loop μ-loop
@@ -93,8 +110,9 @@ run-again-spec =
     state-count-requires
     dense-requires
     loop-holds
-    add-next-of
-    shared-slice-read-next-of
+    add-byte
+    shared-slice-read-byte
+    column-requires
     next-of-requires
     cast-ahead
     mul-ahead

@@ -1,7 +1,5 @@
 -- Where all four are dense the cells are what is found, and what is found says the next state.
 -- Assumes nothing.
-use mathlib.Core.Bool.{true}
-use mathlib.Core.Path.{_≡_}
 use Prim.Native.Nat.{_+_, _*_, _<_}
 use native.Mathlib.Omega.{arith}
 use borrow.Author.Tests.{not-false}
@@ -11,24 +9,27 @@ use borrow.Author.Needs.{needs}
 use Rattle.ahead.proofs.turn.Statement.{statement}
 use Rattle.ahead.proofs.turn.Tie as tie
 
+columns-at-requires : tie.Need-columns-at-requires
+columns-at-requires c κs = c .before .before .pre
+
 all-below-requires : tie.Need-all-below-requires
 all-below-requires c κs = search needs
 
 deep-turn-requires : tie.Need-deep-turn-requires
-deep-turn-requires c κs = search needs
+deep-turn-requires c κs = (c .before .before .before .before .before .pre, c .before .before .columns-at .ensures)
 
 returns : tie.Need-returns
-returns c = search needs
+returns c = c .deep-turn .ensures
 
 four-cells-requires : tie.Need-four-cells-requires
-four-cells-requires c κs = (c .before .before .before .before .pre, c .before .all-below .ensures (not-false _ (c .if1 .left)))
+four-cells-requires c κs = (c .before .before .before .before .before .pre, c .before .before .columns-at .ensures, c .before .all-below .ensures (not-false _ (c .if1 .left)))
 
 all-below-requires-2 : tie.Need-all-below-requires-2
 all-below-requires-2 c κs = search needs
 
 returns-2 : tie.Need-returns-2
 returns-2 c =
-    let a = c .before .before .before .before .before .before .before .args in
+    let a = c .before .before .before .before .before .before .before .before .args in
     let found = c .before .before .four-cells .ensures in
     let below = c .before .all-below2 .ensures (c .if2 .taken) in
     record {
@@ -53,7 +54,7 @@ state-or-root-requires-4 c κs = search needs
 
 returns-3 : tie.Need-returns-3
 returns-3 c =
-    let entry = c .before .before .before .before .before .before .before .before .before .before .before in
+    let entry = c .before .before .before .before .before .before .before .before .before .before .before .before in
     let a = entry .args in
     let some : 0 < a .states = omega (arith, entry .pre .some-dense, entry .pre .few-dense) in
     let found = c .before .before .before .before .before .before .four-cells .ensures in
@@ -74,6 +75,7 @@ pub turn-spec : {M : Type 1} → statement M
 turn-spec =
     tie.close
     (tie.spec
+    columns-at-requires
     all-below-requires
     deep-turn-requires
     returns

@@ -1,9 +1,9 @@
 -- The two ends are the two sides of the test.
 -- Assumes nothing.
 use mathlib.Core.Path.{sym}
-use Rattle.ahead.proofs.Room.{larger-second, larger-first}
-use Rattle.ahead.proofs.columns.larger.Statement.{statement}
-use Rattle.ahead.proofs.columns.larger.Tie as tie
+use Rattle.ahead.proofs.Fits.{larger-second, larger-first}
+use Rattle.ahead.proofs.room.larger.Statement.{statement}
+use Rattle.ahead.proofs.room.larger.Tie as tie
 
 returns : tie.Need-returns
 returns c = sym (larger-second (c .before .args .a) (c .before .args .b) (c .if1 .taken))

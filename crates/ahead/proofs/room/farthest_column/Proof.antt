@@ -4,10 +4,10 @@ use mathlib.Core.Path.{_≡_, refl}
 use Prim.Native.Nat.{_-_, _≤_}
 use native.Mathlib.Omega.{arith}
 use Rattle.ahead.specs.Columns.{farthest}
-use Rattle.ahead.proofs.Room.{farthest-more}
+use Rattle.ahead.proofs.Fits.{farthest-more}
 use borrow.Author.Needs.{needs}
-use Rattle.ahead.proofs.columns.farthest_column.Statement.{statement}
-use Rattle.ahead.proofs.columns.farthest_column.Tie as tie
+use Rattle.ahead.proofs.room.farthest_column.Statement.{statement}
+use Rattle.ahead.proofs.room.farthest_column.Tie as tie
 
 abbrev Inv-loop : tie.InvT-loop
 Inv-loop t last₀ byte₀ last byte = (byte ≤ 256) × (last ≡ farthest t byte)

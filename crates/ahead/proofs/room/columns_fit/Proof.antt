@@ -7,8 +7,8 @@ use lib.Dec.{leb}
 use Rattle.gliding.specs.Quick.{lastColumn}
 use Rattle.ahead.specs.Columns.{columnsFit}
 use borrow.Author.Needs.{needs}
-use Rattle.ahead.proofs.columns.columns_fit.Statement.{statement}
-use Rattle.ahead.proofs.columns.columns_fit.Tie as tie
+use Rattle.ahead.proofs.room.columns_fit.Statement.{statement}
+use Rattle.ahead.proofs.room.columns_fit.Tie as tie
 
 farthest-column-requires : tie.Need-farthest-column-requires
 farthest-column-requires c κs = search needs
