@@ -16,7 +16,7 @@ use Rattle.gliding.proofs.Quiet.{quiet-nothing}
 use Rattle.gliding.proofs.Turns.{goes-quiet, on-goes, glide-stops, glide-on}
 use Rattle.window.specs.Happened.{Here, happened}
 use Rattle.window.proofs.Happened.{happened-long, happened-room, happened-few}
-use Rattle.feeding.specs.Taken.{Run, atStart, byteTaken, freeAfter, partTaken}
+use Rattle.feeding.specs.Taken.{Run, byteTaken, freeAfter, partTaken, toCome}
 
 -- The way of a run, and the run that went so far.
 abbrev pub goneOf : Run → Gone
@@ -125,13 +125,11 @@ module _ (t : List ℕ) (room : ℕ) (part : List ℕ) where
           → ((run : Run) → run .taken + n ≡ length part → phraseCountIn t ≤ freeAfter room run → Glides (drop (run .taken) part) run) → Glides y run
       first y e rec = rw e (onward (oneOn t (run .here .memory) (goneOf run) byte .event) refl rec)
 
--- From the first byte of a part.
-pub first-part : (t : List ℕ) (room : ℕ) (part : List ℕ) (state place : ℕ) (m lent : List ℕ) → phraseCountIn t ≤ room
-    → (to : Glide) → to ≡ glideIn t m part (goneOf (atStart state place m lent))
-    → glided t room part to (atStart state place m lent .here) ≡ partTaken t room part (atStart state place m lent)
-first-part t room part state place m lent free to is =
-    ap (λ (g : Glide). glided t room part g (atStart state place m lent .here)) is
-    ∙ sym (glide-part t room part (length part) (atStart state place m lent) (omega arith) (omega arith))
+-- From where a run stands.
+pub rest-part : (t : List ℕ) (room : ℕ) (part : List ℕ) (run : Run) → run .taken ≤ length part → phraseCountIn t ≤ freeAfter room run
+    → (to : Glide) → to ≡ glideIn t (run .here .memory) (drop (run .taken) part) (goneOf run) → glided t room part to (run .here) ≡ toCome t room part run
+rest-part t room part run within free to is =
+    ap (λ (g : Glide). glided t room part g (run .here)) is ∙ sym (glide-part t room part (length part - run .taken) run (omega arith) free)
 
 -- ── The loop ──
 

@@ -1,12 +1,17 @@
 -- What holds before bytes are taken, and what is kept: the memories have their sizes, the counts of the tables are in range, and so are state and place.
 -- Assumes nothing: these are definitions.
+use mathlib.Core.Path.{_≡_}
+use mathlib.Core.Bool.{true}
 use mathlib.Core.List.{List}
-use Prim.Native.Nat.{ℕ, _+_, _*_, _≤_, _<_}
+use Prim.Native.Nat.{ℕ, _+_, _-_, _*_, _≤_, _<_}
 use lib.ListN.{length}
 use Rattle.tables.specs.Layout.{roomForStates, roomForPhrases}
 use Rattle.tables.specs.Reads.{Whole, stateCountIn, denseIn, phraseCountIn}
 use Rattle.running.specs.Reads.{WholeRunning}
+use Rattle.gliding.specs.Foreseen.{Looked, Foreseen}
+use Rattle.ahead.specs.Columns.{columnsFit}
 use Rattle.feeding.specs.declared.Progress.{Progress}
+use Rattle.feeding.specs.Taken.{runOf, toCome}
 
 -- Before a part of so many bytes.
 pub record Ready (t m : List ℕ) (offered state place : ℕ) : Type 0 where
@@ -24,6 +29,66 @@ pub record Kept (t part : List ℕ) (progress : Progress) : Type 0 where
   pub inside : progress .state .0 < stateCountIn t
   pub within : progress .taken ≤ length part
   pub few-gains : progress .gains ≤ 128 * progress .taken
+
+-- ── From where a call has come to ──
+
+-- Before the rest of a part, with room for so many reports: as before a part of the bytes that are left.
+pub record ReadyOn (t m part : List ℕ) (free : ℕ) (from : Progress) : Type 0 where
+  pub ready : Ready t m (length part - from .taken) (from .state .0) (from .place .0)
+  pub kept : Kept t part from
+  pub few : from .written ≤ free
+  pub short : length part < 4294967296
+
+-- After some of it: no more was written than there is room for, and the place went on with the bytes.
+pub record KeptOn (t part : List ℕ) (free : ℕ) (from to : Progress) : Type 0 where
+  pub kept : Kept t part to
+  pub few : to .written ≤ free
+  pub early : to .place .0 + from .taken ≡ from .place .0 + to .taken
+
+-- All of it was taken for which there is room.
+pub record Took (t part : List ℕ) (free : ℕ) (m₀ room₀ : List ℕ) (from : Progress) (m room : List ℕ) (to : Progress) : Type 0 where
+  pub all : runOf to m room ≡ toCome t free part (runOf from m₀ room₀)
+  pub kept : KeptOn t part free from to
+
+-- Some of it was taken: what is left comes to what was left before.
+pub record Passed (t part : List ℕ) (free : ℕ) (m₀ room₀ : List ℕ) (from : Progress) (m room : List ℕ) (to : Progress) : Type 0 where
+  pub rest : toCome t free part (runOf to m room) ≡ toCome t free part (runOf from m₀ room₀)
+  pub kept : KeptOn t part free from to
+
+-- ── Blocks whose states are looked up ahead ──
+
+-- Before quarter k of a block, which ends with the part: the states of its bytes are right.
+pub record QuarterReady (t m part : List ℕ) (free : ℕ) (states : List ℕ) (k : ℕ) (from : Progress) : Type 0 where
+  pub on : ReadyOn t m part free from
+  pub of-four : k < 4
+  pub foreseen : Foreseen t part (from .taken) (from .state .0) states (from .taken) k
+  pub room-for : 4 * (length part - from .taken) ≤ length states
+
+-- Before the quarters of a block: the states of all were looked up.
+pub record QuartersReady (t m part : List ℕ) (free : ℕ) (states : List ℕ) (quarter : ℕ) (from : Progress) : Type 0 where
+  pub on : ReadyOn t m part free from
+  pub within : from .taken + 4 * quarter ≤ length part
+  pub looked : Looked t part (from .taken) quarter (from .state .0) states
+  pub room-for : 4 * quarter ≤ length states
+
+-- Before some blocks.
+pub record BlocksReady (t m part : List ℕ) (free : ℕ) (from : Progress) : Type 0 where
+  pub on : ReadyOn t m part free from
+  pub fit : columnsFit t ≡ true
+
+-- Of so many bytes a block with such quarters can be taken: not at all where they have no byte.
+pub record QuarterFits (remaining quarter : ℕ) : Type 0 where
+  pub within : 4 * quarter ≤ remaining
+  pub short : quarter ≤ 1024
+  pub long : 0 < quarter → 32 ≤ quarter
+
+-- Before a block.
+pub record BlockReady (t m part : List ℕ) (free quarter : ℕ) (from : Progress) : Type 0 where
+  pub blocks : BlocksReady t m part free from
+  pub fits : QuarterFits (length part - from .taken) quarter
+  pub some : 0 < quarter
+
+-- ── Steps ──
 
 -- Before the failure steps are counted.
 pub record Countable (t : List ℕ) (first : ℕ) (progress : Progress) : Type 0 where

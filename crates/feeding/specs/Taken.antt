@@ -1,8 +1,9 @@
 -- The bytes that a call takes, whatever the tables and the running memory hold. Assumes nothing: these are definitions.
-use mathlib.Core.Bool.{cond}
+use mathlib.Core.Bool.{false, cond}
 use mathlib.Core.List.{List, [], _∷_}
 use Prim.Native.Nat.{ℕ, _+_, _-_}
 use lib.Dec.{ltb}
+use lib.ListN.{drop}
 use Rattle.tables.specs.Reads.{stateCountIn, denseIn, phraseCountIn, depthIn, gainIn}
 use Rattle.gliding.specs.Quick.{quickIn}
 use Rattle.window.specs.Happened.{Here, happened}
@@ -30,6 +31,10 @@ runOf progress memory room = record {
 -- The way that was gone, and the reports written on it.
 abbrev pub progressOn : Way → ℕ → Progress
 progressOn way written = record { state = way .state; place = way .place; taken = way .taken; written = written; gains = way .gains }
+
+-- The way from where a call has come to.
+abbrev pub wayFrom : Progress → Way
+wayFrom from = record { state = from .state; place = from .place; taken = from .taken; gains = from .gains; event = false }
 
 -- Before the first byte of a part.
 abbrev pub atStart : ℕ → ℕ → List ℕ → List ℕ → Run
@@ -63,6 +68,10 @@ partTaken t room [] run = run
 partTaken t room (byte ∷ rest) run =
     let further : Run = partTaken t room rest (byteTaken t run byte) in
     cond (ltb (freeAfter room run) (phraseCountIn t)) run further
+
+-- What a run comes to with the bytes of a part that it has not taken.
+abbrev pub toCome : List ℕ → ℕ → List ℕ → Run → Run
+toCome t room part run = partTaken t room (drop (run .taken) part) run
 
 -- ── Failure steps ──
 

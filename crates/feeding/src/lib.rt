@@ -1,13 +1,17 @@
 // Takes the bytes of a part, while any remains and the free room is enough for a report of every phrase: it glides over the
-// bytes at which nothing happens, and does what happens at the others.
+// bytes at which nothing happens, and does what happens at the others. The states of a long part are looked up ahead, block by block.
 ghost use mathlib.Core.Path.{_≡_};
 ghost use Prim.Native.Nat.{_/_};
 ghost use lib.ListN.{length};
-ghost use Rattle.feeding.specs.Taken.{atStart, runOf, progressOn, partTaken, stepsOf};
+ghost use Rattle.feeding.specs.Taken.{atStart, runOf, progressOn, wayFrom, partTaken, stepsOf};
 ghost use Rattle.feeding.specs.Ready.{Ready, Kept, Countable};
 use counters::Place;
 use counters::State;
 use gliding::Way;
+
+mod blocks; // blocks.rt: blocks whose states are looked up ahead
+mod quarter; // quarter.rt: a quarter of a block
+mod rest; // rest.rt: the rest of a part, byte by byte
 
 // How far a call has come: the state and the place, and the bytes taken, the reports written and the sum of the gains of the call.
 pub struct Progress {
@@ -33,6 +37,21 @@ fn progress_on(way: Way, written: usize) -> Progress
     }
 }
 
+// The way from where a call has come to.
+fn way_from(from: Progress) -> Way
+    ensures { λ r. ⌜ r ≡ wayFrom from ⌝ }
+{
+    let state = from.state;
+    let place = from.place;
+    Way {
+        state,
+        place,
+        taken: from.taken,
+        gains: from.gains,
+        event: false,
+    }
+}
+
 // The bytes of a part, from a state and a place on.
 pub fn take_bytes(
     t: &[u8],
@@ -45,30 +64,15 @@ pub fn take_bytes(
     requires { ⌜ Ready (now t) (now m) (length (now part)) (state .0) (place .0) ⌝ }
     ensures { λ r. ⌜ (runOf r (now (m .exit)) (now (room .exit)) ≡ partTaken (now (t .entry)) (length (now (room .entry)) / 2) (now (part .entry)) (atStart (state .0) (place .0) (now (m .entry)) (now (room .entry)))) × (Kept (now (t .entry)) (now (part .entry)) r) ⌝ }
 {
-    let phrases = tables::phrase_count(t);
-    let free = room.len() / 2;
-    let start = Way {
+    let start = Progress {
         state,
         place,
         taken: 0,
+        written: 0,
         gains: 0,
-        event: false,
     };
-    if free < phrases {
-        return progress_on(start, 0);
-    }
-    let mut way = gliding::glide(t, m, part, start);
-    let mut written = 0;
-    while way.event {
-        let reached = way.state;
-        let there = way.place;
-        written = window::happen(t, m, room, written, reached, there);
-        if free - written < phrases {
-            return progress_on(way, written);
-        }
-        way = gliding::glide(t, m, part, way);
-    }
-    progress_on(way, written)
+    let progress = blocks::take_ahead(t, m, part, room, start);
+    rest::take_rest(t, m, part, room, progress)
 }
 
 // The failure steps of the bytes taken since a state. A byte adds one to the depth of the state, less its gain, and a failure step

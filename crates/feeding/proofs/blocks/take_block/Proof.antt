@@ -1,0 +1,54 @@
+-- The states were looked up, so that the quarters can be taken.
+-- Assumes nothing.
+use native.Mathlib.Omega.{arith}
+use borrow.Author.Needs.{needs}
+use Rattle.feeding.proofs.blocks.take_block.Statement.{statement}
+use Rattle.feeding.proofs.blocks.take_block.Tie as tie
+
+slice-aggregate-look-ahead : tie.Need-slice-aggregate-look-ahead
+slice-aggregate-look-ahead c = search needs
+
+look-ahead-requires : tie.Need-look-ahead-requires
+look-ahead-requires c κs =
+    let pre = c .before .before .before .before .before .before .pre in
+    let on = pre .blocks .on in
+    record {
+      tables = on .ready .tables;
+      few-states = on .ready .states;
+      some-dense = on .ready .some-dense;
+      few-dense = on .ready .few-dense;
+      columns = pre .blocks .fit;
+      inside = on .ready .inside;
+      least = pre .fits .long (pre .some);
+      most = pre .fits .short;
+      within = omega (arith, pre .fits .within, on .kept .within);
+      short = on .short;
+      room = omega (arith, pre .fits .short);
+    }
+
+slice-aggregate-take-quarters : tie.Need-slice-aggregate-take-quarters
+slice-aggregate-take-quarters c = search needs
+
+take-quarters-requires : tie.Need-take-quarters-requires
+take-quarters-requires c κs = search needs
+
+same-length : tie.Need-same-length
+same-length c = search needs
+
+same-length-2 : tie.Need-same-length-2
+same-length-2 c = search needs
+
+returns : tie.Need-returns
+returns c = search needs
+
+pub take-block-spec : {M : Type 1} → statement M
+take-block-spec =
+    tie.close
+    (tie.spec
+    slice-aggregate-look-ahead
+    look-ahead-requires
+    slice-aggregate-take-quarters
+    take-quarters-requires
+    same-length
+    same-length-2
+    returns)

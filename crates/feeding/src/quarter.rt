@@ -1,0 +1,40 @@
+// A quarter of a block whose states were looked up ahead.
+ghost use Prim.Native.Nat.{_/_};
+ghost use lib.ListN.{length};
+ghost use Rattle.feeding.specs.Ready.{QuarterReady, Took};
+use crate::Progress;
+use crate::progress_on;
+use crate::way_from;
+
+// The same as the rest of a part that ends with quarter k, whose states are known.
+pub fn take_quarter(
+    t: &[u8],
+    m: &mut [u8],
+    part: &[u8],
+    room: &mut [u32],
+    states: &[u16],
+    k: usize,
+    from: Progress,
+) -> Progress
+    requires { ⌜ QuarterReady (now t) (now m) (now part) (length (now room) / 2) (now states) k from ⌝ }
+    ensures { λ r. ⌜ Took (now (t .entry)) (now (part .entry)) (length (now (room .entry)) / 2) (now (m .entry)) (now (room .entry)) from (now (m .exit)) (now (room .exit)) r ⌝ }
+{
+    let phrases = tables::phrase_count(t);
+    let free = room.len() / 2;
+    if free - from.written < phrases {
+        return from;
+    }
+    let first = from.taken;
+    let mut written = from.written;
+    let mut way = skimming::skim(t, m, part, states, first, k, way_from(from));
+    while way.event {
+        let reached = way.state;
+        let there = way.place;
+        written = window::happen(t, m, room, written, reached, there);
+        if free - written < phrases {
+            return progress_on(way, written);
+        }
+        way = skimming::skim(t, m, part, states, first, k, way);
+    }
+    progress_on(way, written)
+}
