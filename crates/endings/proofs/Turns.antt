@@ -1,5 +1,5 @@
 -- One turn of each loop, and the two sides of each test, as the definitions say them. Assumes nothing.
-use mathlib.Core.Path.{_≡_}
+use mathlib.Core.Path.{_≡_, sym}
 use mathlib.Core.Bool.{true, false}
 use mathlib.Core.List.{List}
 use Prim.Native.Nat.{ℕ, zero, suc, _+_, _-_, _<_}
@@ -7,7 +7,7 @@ use native.Mathlib.Numerals.{add-one}
 use native.Mathlib.Omega.{arith}
 use lib.ListN.{getD}
 use borrow.Author.Tests.{eq-eqb, ne-eqb}
-use Rattle.tables.specs.Reads.{linkIn, endingIn, firstLinkIn, backIn}
+use Rattle.tables.specs.Reads.{infoIn, outIn, linkIn, endingIn, firstLinkIn, backIn}
 use Rattle.endings.specs.Filled.{withEnding, withLink, withFirst, ownBelow, inheritedOut, inheritedInfo, withInherited, inheritedBelow, withLinkOn, linkedBelow}
 
 module _ (t : List ℕ) (i : ℕ) where
@@ -19,6 +19,11 @@ module _ (t : List ℕ) (i : ℕ) where
   unfolding withInherited
   inherited-back e = rw e
 
+  -- The same of the numbers that the code reads.
+  pub inherited-read : {back out info : ℕ} → endingIn t i ≡ false → back ≡ backIn t i → out ≡ outIn t back → info ≡ infoIn t back
+      → withEnding t i out info ≡ withInherited t i
+  inherited-read none led first says = rw (first, says, led) (sym (inherited-back none))
+
   module _ (p : ℕ) where
     pub link-on-kept : (linkIn t p ≡ 0 → ⊥) → withLinkOn t i p ≡ t
     unfolding withLinkOn
@@ -27,6 +32,14 @@ module _ (t : List ℕ) (i : ℕ) where
     pub link-on-new : linkIn t p ≡ 0 → withLinkOn t i p ≡ withLink t p (firstLinkIn t (backIn t i))
     unfolding withLinkOn
     link-on-new e = rw (eq-eqb (linkIn t p) 0 e)
+
+    pub link-on-read : {back link : ℕ} → linkIn t p ≡ 0 → back ≡ backIn t i → link ≡ firstLinkIn t back → withLink t p link ≡ withLinkOn t i p
+    link-on-read e led first = rw (first, led) (sym (link-on-new e))
+
+    -- The link is read before the state gets its new first piece.
+    pub first-read : {linked : List ℕ} {link : ℕ} → link ≡ firstLinkIn t i → linked ≡ withLink t p link → withEnding linked i p 128 ≡ withFirst t i p
+    unfolding withFirst
+    first-read first put = rw (put, first)
 
 -- The pieces still to come, once the one below p has been put first.
 pub own-turn : (at : List ℕ) (p : ℕ) (t now : List ℕ) (i : ℕ) → 0 < p → i ≡ getD at (p - 1) 0 → now ≡ withFirst t i (p - 1) → ownBelow at p t ≡ ownBelow at (p - 1) now

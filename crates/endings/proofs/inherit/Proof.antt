@@ -1,7 +1,7 @@
 -- The two ends are the two sides of the test.
 -- Assumes nothing.
-use mathlib.Core.Path.{sym}
-use Rattle.endings.proofs.Turns.{inherited-own, inherited-back}
+use mathlib.Core.Path.{sym, _∙_}
+use Rattle.endings.proofs.Turns.{inherited-own, inherited-read}
 use borrow.Author.Needs.{needs}
 use Rattle.endings.proofs.inherit.Statement.{statement}
 use Rattle.endings.proofs.inherit.Tie as tie
@@ -15,7 +15,7 @@ same-length c = search needs
 returns : tie.Need-returns
 returns c =
     let a = c .before .before .before .before .args in
-    sym (inherited-own (a .t .now) (a .state .0) (cc))
+    sym (inherited-own (a .t .now) (a .state .0) (sym (c .before .has-ending .ensures) ∙ c .if1 .taken))
 
 failure-requires : tie.Need-failure-requires
 failure-requires c κs = search needs
@@ -38,7 +38,12 @@ same-length-2 c = search needs
 returns-2 : tie.Need-returns-2
 returns-2 c =
     let a = c .before .before .before .before .before .before .before .before .before .before .before .before .before .before .args in
-    cc (inherited-back (a .t .now) (a .state .0) (cc))
+    c .before .before .put-ending .ensures
+    ∙ inherited-read (a .t .now) (a .state .0)
+    (sym (c .before .before .before .before .before .before .before .before .before .before .before .has-ending .ensures) ∙ c .before .before .before .before .before .before .before .before .before .before .if1 .left)
+    (c .before .before .before .before .before .before .before .before .failure .ensures .0)
+    (c .before .before .before .before .before .before .out .ensures .0)
+    (c .before .before .before .before .info .ensures)
 
 pub inherit-spec : {M : Type 1} → statement M
 inherit-spec =

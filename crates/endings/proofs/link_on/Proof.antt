@@ -1,7 +1,7 @@
 -- The two ends are the two sides of the test.
 -- Assumes nothing.
 use mathlib.Core.Path.{sym, _∙_}
-use Rattle.endings.proofs.Turns.{link-on-kept, link-on-new}
+use Rattle.endings.proofs.Turns.{link-on-kept, link-on-read}
 use borrow.Author.Needs.{needs}
 use Rattle.endings.proofs.link_on.Statement.{statement}
 use Rattle.endings.proofs.link_on.Tie as tie
@@ -24,7 +24,11 @@ same-length c = search needs
 returns : tie.Need-returns
 returns c =
     let a = c .before .before .before .before .before .before .before .before .before .before .before .args in
-    cc (link-on-new (a .t .now) (a .state .0) (a .p) (cc))
+    c .before .before .put-link .ensures
+    ∙ link-on-read (a .t .now) (a .state .0) (a .p)
+    (sym (c .before .before .before .before .before .before .before .before .link .ensures) ∙ c .before .before .before .before .before .before .before .if1 .taken)
+    (c .before .before .before .before .before .failure .ensures .0)
+    (c .before .before .before .before .first-link .ensures .0)
 
 same-length-2 : tie.Need-same-length-2
 same-length-2 c = search needs

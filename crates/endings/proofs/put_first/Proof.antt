@@ -1,6 +1,7 @@
 -- The link is read before the state gets its new first piece.
 -- Assumes nothing.
-use Rattle.endings.specs.Filled.{withFirst}
+use mathlib.Core.Path.{_∙_}
+use Rattle.endings.proofs.Turns.{first-read}
 use borrow.Author.Needs.{needs}
 use Rattle.endings.proofs.put_first.Statement.{statement}
 use Rattle.endings.proofs.put_first.Tie as tie
@@ -21,8 +22,9 @@ same-length : tie.Need-same-length
 same-length c = search needs
 
 returns : tie.Need-returns
-unfolding withFirst
-returns c = cc
+returns c =
+    let a = c .before .before .before .before .before .before .before .before .before .before .before .args in
+    c .before .before .put-ending .ensures ∙ first-read (a .t .now) (a .state .0) (a .p) (c .before .before .before .before .before .before .before .before .first-link .ensures .0) (c .before .before .before .before .before .before .put-link .ensures)
 
 pub put-first-spec : {M : Type 1} → statement M
 put-first-spec =
