@@ -3,7 +3,6 @@
 // last line is that of a refused build.
 mod refused;
 
-use builder::Built;
 use libc::STDOUT_FILENO;
 use refused::refused_build;
 use scanner::Begun;
@@ -26,6 +25,12 @@ fn number(n: u64) {
     io::print_decimal(STDOUT_FILENO, n);
 }
 
+// Words, and the number that they name.
+fn told(words: &[u8], n: u64) {
+    text(words);
+    number(n);
+}
+
 // The first so many reports in the room.
 fn show(room: &[u32; ROOM], reports: usize) {
     let mut i: usize = 0;
@@ -33,10 +38,8 @@ fn show(room: &[u32; ROOM], reports: usize) {
         if i >= ROOM / 2 {
             return;
         }
-        text(b" (");
-        number(lent::four64(room[2 * i]));
-        text(b",");
-        number(lent::four64(room[2 * i + 1]));
+        told(b" (", lent::four64(room[2 * i]));
+        told(b",", lent::four64(room[2 * i + 1]));
         text(b")");
         i += 1;
     }
@@ -48,21 +51,15 @@ struct Took {
     steps: u64,
 }
 
-// One call, with room for so many reports.
-fn call(tables: &[u8], running: &mut [u8], part: &[u8], reports: usize) -> Took {
-    let mut room = [0u32; ROOM];
-    if reports > ROOM / 2 {
-        return Took { taken: 0, steps: 0 };
-    }
-    let slots = 2 * reports;
-    let answer = scanner::feed(tables, running, part, &mut room[..slots]);
+// What an answer says, with the reports that the room holds.
+fn said(answer: Fed, room: &[u32; ROOM]) -> Took {
     match answer {
         Fed::Took {
             taken,
             reports,
             steps,
         } => {
-            show(&room, reports);
+            show(room, reports);
             Took { taken, steps }
         }
         Fed::TooSmall => Took { taken: 0, steps: 0 },
@@ -73,6 +70,17 @@ fn call(tables: &[u8], running: &mut [u8], part: &[u8], reports: usize) -> Took 
         }
         Fed::TooLong => Took { taken: 0, steps: 0 },
     }
+}
+
+// One call, with room for so many reports.
+fn call(tables: &[u8], running: &mut [u8], part: &[u8], reports: usize) -> Took {
+    let mut room = [0u32; ROOM];
+    if reports > ROOM / 2 {
+        return Took { taken: 0, steps: 0 };
+    }
+    let slots = 2 * reports;
+    let answer = scanner::feed(tables, running, part, &mut room[..slots]);
+    said(answer, &room)
 }
 
 // The part, in as many calls as it takes; answers the failure steps.
@@ -105,8 +113,7 @@ fn begun(tables: &[u8], running: &mut [u8]) -> bool {
 }
 
 fn finish(steps: u64) {
-    text(b" steps ");
-    number(steps);
+    told(b" steps ", steps);
     text(b"\n");
 }
 
@@ -147,8 +154,7 @@ fn by_bytes(tables: &[u8], letter: &[u8]) {
 
 fn cut_line(row: &[u8], tables: &[u8], letter: &[u8], at: usize) {
     text(row);
-    text(b" cut at ");
-    number(at as u64);
+    told(b" cut at ", at as u64);
     text(b":");
     cut(tables, letter, at);
 }
@@ -194,11 +200,14 @@ fn built(book: &[u8], end: usize, tables: &mut [u8]) -> bool {
     if end > book.len() {
         return false;
     }
-    let answer = builder::build(&book[..end], tables);
-    match answer {
-        Built::Done { length: _ } => true,
-        Built::TooSmall => false,
-        Built::Refused { why: _, at: _ } => false,
+    builder::build(&book[..end], tables).number() == 0
+}
+
+// Every way, for a book of so many phrases that stands in a sheet.
+fn listed(row: &[u8], book: &[u8], end: usize, letter: &[u8], phrases: usize) {
+    let mut tables = [0u8; TABLES];
+    if built(book, end, &mut tables) {
+        ways(row, &tables, letter, phrases);
     }
 }
 
@@ -212,54 +221,46 @@ fn phrase(book: &mut [u8], at: usize, number: u16, keyword: &[u8]) -> usize {
 // Row A's phrase: at the very start.
 fn at_start(row: &[u8], keyword: &[u8], letter: &[u8]) {
     let mut book = [0u8; BOOK];
-    let mut tables = [0u8; TABLES];
     let at = sheet::header(&mut book, 0, 1);
     let gap = sheet::phrase(&mut book, at, 1, 1);
     let start = sheet::bounded(&mut book, gap, 0, 0);
     let last = word(&mut book, start, keyword);
     let end = sheet::end(&mut book, last, 1);
-    if built(&book, end, &mut tables) {
-        ways(row, &tables, letter, 1);
-    }
+    listed(row, &book, end, letter, 1);
 }
 
 fn anywhere(row: &[u8], keyword: &[u8], letter: &[u8]) {
     let mut book = [0u8; BOOK];
-    let mut tables = [0u8; TABLES];
     let at = sheet::header(&mut book, 0, 1);
     let last = phrase(&mut book, at, 1, keyword);
     let end = sheet::end(&mut book, last, 1);
-    if built(&book, end, &mut tables) {
-        ways(row, &tables, letter, 1);
-    }
+    listed(row, &book, end, letter, 1);
 }
 
-// Two keywords with a bounded gap between them.
+// A book of one phrase: two keywords with a bounded gap between them.
+fn pair(book: &mut [u8], number: u16, first: &[u8], least: u16, most: u16, second: &[u8]) -> usize {
+    let at = sheet::header(book, 0, 1);
+    let gap = phrase(book, at, number, first);
+    let start = sheet::bounded(book, gap, least, most);
+    let last = word(book, start, second);
+    sheet::end(book, last, 1)
+}
+
 fn between(row: &[u8], first: &[u8], least: u16, most: u16, second: &[u8], letter: &[u8]) {
     let mut book = [0u8; BOOK];
-    let mut tables = [0u8; TABLES];
-    let at = sheet::header(&mut book, 0, 1);
-    let gap = phrase(&mut book, at, 1, first);
-    let start = sheet::bounded(&mut book, gap, least, most);
-    let last = word(&mut book, start, second);
-    let end = sheet::end(&mut book, last, 1);
-    if built(&book, end, &mut tables) {
-        ways(row, &tables, letter, 1);
-    }
+    let end = pair(&mut book, 1, first, least, most, second);
+    listed(row, &book, end, letter, 1);
 }
 
 // Two keywords with an open gap between them.
 fn later(row: &[u8], first: &[u8], second: &[u8], letter: &[u8]) {
     let mut book = [0u8; BOOK];
-    let mut tables = [0u8; TABLES];
     let at = sheet::header(&mut book, 0, 1);
     let gap = phrase(&mut book, at, 1, first);
     let start = sheet::open(&mut book, gap, 0);
     let last = word(&mut book, start, second);
     let end = sheet::end(&mut book, last, 1);
-    if built(&book, end, &mut tables) {
-        ways(row, &tables, letter, 1);
-    }
+    listed(row, &book, end, letter, 1);
 }
 
 // 1 ~aa, 2 ~abaaa, 3 ~abab.
@@ -273,40 +274,26 @@ fn three(book: &mut [u8]) -> usize {
 
 fn of_three(row: &[u8], letter: &[u8]) {
     let mut book = [0u8; BOOK];
-    let mut tables = [0u8; TABLES];
     let end = three(&mut book);
-    if built(&book, end, &mut tables) {
-        ways(row, &tables, letter, 3);
-    }
+    listed(row, &book, end, letter, 3);
 }
 
 // ── Row L in three calls ──
 
 fn one_call(tables: &[u8], running: &mut [u8], rest: &[u8], reports: usize) -> usize {
-    text(b"L with room for ");
-    number(reports as u64);
+    told(b"L with room for ", reports as u64);
     text(b":");
     let took = call(tables, running, rest, reports);
-    text(b" took ");
-    number(took.taken as u64);
+    told(b" took ", took.taken as u64);
     finish(took.steps);
     took.taken
 }
 
-fn in_calls(letter: &[u8], reports: usize) {
-    let mut book = [0u8; BOOK];
-    let mut tables = [0u8; TABLES];
-    let mut running = [0u8; RUNNING];
-    let end = three(&mut book);
-    if !built(&book, end, &mut tables) {
-        return;
-    }
-    if !begun(&tables, &mut running) {
-        return;
-    }
+// The letter, in as many calls as it takes.
+fn calls(tables: &[u8], running: &mut [u8], letter: &[u8], reports: usize) {
     let mut at = 0;
     while at < letter.len() {
-        let taken = one_call(&tables, &mut running, &letter[at..], reports);
+        let taken = one_call(tables, running, &letter[at..], reports);
         if taken == 0 {
             return;
         }
@@ -317,21 +304,58 @@ fn in_calls(letter: &[u8], reports: usize) {
     }
 }
 
-fn main() {
-    at_start(b"A", b"ab", b"abab");
-    anywhere(b"B", b"ab", b"abab");
-    between(b"C", b"a", 1, 2, b"a", b"aa");
-    between(b"D", b"a", 1, 2, b"a", b"aba");
-    between(b"E", b"a", 1, 2, b"a", b"abba");
-    between(b"F", b"a", 1, 2, b"a", b"abbba");
-    between(b"G", b"a", 1, 2, b"a", b"aaaaa");
+fn in_calls(letter: &[u8], reports: usize) {
+    let mut book = [0u8; BOOK];
+    let mut tables = [0u8; TABLES];
+    let mut running = [0u8; RUNNING];
+    let end = three(&mut book);
+    if !built(&book, end, &mut tables) {
+        return;
+    }
+    if begun(&tables, &mut running) {
+        calls(&tables, &mut running, letter, reports);
+    }
+}
+
+// ── The rows ──
+
+// Two letters a, with one or two bytes between them.
+fn near(row: &[u8], letter: &[u8]) {
+    between(row, b"a", 1, 2, b"a", letter);
+}
+
+// Twice aa, with nothing between them.
+fn doubled(row: &[u8], letter: &[u8]) {
+    between(row, b"aa", 0, 0, b"aa", letter);
+}
+
+fn rows_c_to_g() {
+    near(b"C", b"aa");
+    near(b"D", b"aba");
+    near(b"E", b"abba");
+    near(b"F", b"abbba");
+    near(b"G", b"aaaaa");
+}
+
+fn rows_h_to_k() {
     between(b"H", b"a", 2, 2, b"b", b"aaxb");
-    between(b"I", b"aa", 0, 0, b"aa", b"aaa");
-    between(b"J", b"aa", 0, 0, b"aa", b"aaaa");
+    doubled(b"I", b"aaa");
+    doubled(b"J", b"aaaa");
     later(b"K", b"a", b"b", b"aab");
+}
+
+fn rows_l_and_m() {
     of_three(b"L", b"abaaabab");
     of_three(b"M", b"");
     in_calls(b"abaaabab", 3);
     in_calls(b"abaaabab", 2);
+}
+
+fn main() {
+    at_start(b"A", b"ab", b"abab");
+    anywhere(b"B", b"ab", b"abab");
+    rows_c_to_g();
+    rows_h_to_k();
+    rows_l_and_m();
     refused_build();
 }

@@ -3,10 +3,10 @@ use crate::BOOK;
 use crate::ROOM;
 use crate::RUNNING;
 use crate::TABLES;
-use crate::number;
-use crate::phrase;
+use crate::pair;
 use crate::text;
-use crate::word;
+use crate::told;
+use builder::Built;
 use builder::build;
 use scanner::Begun;
 use scanner::Fed;
@@ -59,24 +59,20 @@ fn other_numbers(room: &[u32]) -> u64 {
 
 // Document 01's example with least 9 and most 1: refused with 5 at the second gap, which stands at 13.
 fn crossed(book: &mut [u8]) -> usize {
-    let at = sheet::header(book, 0, 1);
-    let gap = phrase(book, at, 7, b"not");
-    let start = sheet::bounded(book, gap, 9, 1);
-    let last = word(book, start, b"print");
-    sheet::end(book, last, 1)
+    pair(book, 7, b"not", 9, 1, b"print")
+}
+
+fn answered(answer: Built) {
+    told(b"refused build: build ", lent::wide64(answer.number()));
+    told(b" at ", answer.offset() as u64);
 }
 
 fn built(book: &[u8], end: usize, tables: &mut [u8]) {
     if end > book.len() {
         return;
     }
-    let answer = build(&book[..end], tables);
-    text(b"build ");
-    number(lent::wide64(answer.number()));
-    text(b" at ");
-    number(answer.offset() as u64);
-    text(b" not zero ");
-    number(other_bytes(tables, 0));
+    answered(build(&book[..end], tables));
+    told(b" not zero ", other_bytes(tables, 0));
 }
 
 fn begin_number(answer: Begun) -> u64 {
@@ -89,21 +85,15 @@ fn begin_number(answer: Begun) -> u64 {
 
 fn begun(tables: &[u8], running: &mut [u8]) {
     let answer = scanner::begin(tables, running);
-    text(b", begin ");
-    number(begin_number(answer));
-    text(b" changed ");
-    number(other_bytes(running, OLD));
+    told(b", begin ", begin_number(answer));
+    told(b" changed ", other_bytes(running, OLD));
 }
 
 fn say(refusal: u64, taken: usize, reports: usize, steps: u64) {
-    text(b", feed ");
-    number(refusal);
-    text(b" taken ");
-    number(taken as u64);
-    text(b" reports ");
-    number(reports as u64);
-    text(b" steps ");
-    number(steps);
+    told(b", feed ", refusal);
+    told(b" taken ", taken as u64);
+    told(b" reports ", reports as u64);
+    told(b" steps ", steps);
 }
 
 fn said(answer: Fed) {
@@ -124,8 +114,11 @@ fn fed(tables: &[u8], running: &mut [u8], room: &mut [u32]) {
     let answer = scanner::feed(tables, running, b"do not ever print", room);
     said(answer);
     let bytes = other_bytes(running, OLD);
-    text(b" changed ");
-    number(std::num::wrapping_add_u64(bytes, other_numbers(room)));
+    told(
+        b" changed ",
+        std::num::wrapping_add_u64(bytes, other_numbers(room)),
+    );
+    text(b"\n");
 }
 
 // The line: build's number and offset and how many bytes of the tables it left other than zero; then begin and feed, each with what it says and
@@ -135,10 +128,8 @@ pub fn refused_build() {
     let mut tables = [OLD; TABLES];
     let mut running = [OLD; RUNNING];
     let mut room = [OLD_NUMBER; ROOM];
-    text(b"refused build: ");
     let end = crossed(&mut book);
     built(&book, end, &mut tables);
     begun(&tables, &mut running);
     fed(&tables, &mut running, &mut room);
-    text(b"\n");
 }

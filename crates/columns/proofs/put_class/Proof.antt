@@ -1,7 +1,7 @@
 -- The two ends are the two sides of the test: no state has the byte as its label, or some has.
 -- Assumes nothing.
 use native.Mathlib.Omega.{arith}
-use mathlib.Core.Path.{_≡_, refl}
+use mathlib.Core.Path.{_≡_, refl, sym, _∙_}
 use borrow.Author.Tests.{eq-eqb, ne-eqb}
 use Rattle.columns.specs.Columns.{labelledBy, classFor, nextClass, withClass}
 use borrow.Author.Needs.{needs}
@@ -33,7 +33,7 @@ returns : tie.Need-returns
 unfolding nextClass withClass classFor
 returns c =
     let a = c .before .before .before .before .before .before .before .before .before .args in
-    let none : labelledBy (a .t .now) (a .states) (a .byte) ≡ 0 = cc in
+    let none : labelledBy (a .t .now) (a .states) (a .byte) ≡ 0 = sym (c .before .before .before .before .before .number .ensures ∙ c .before .before .before .before .before .before .labelled .ensures .0) ∙ c .before .before .before .before .if1 .taken in
     rw (eq-eqb (labelledBy (a .t .now) (a .states) (a .byte)) 0 none) ((refl, c .before .before .put2 .ensures), (omega arith, omega arith))
 
 mul-put2-2 : tie.Need-mul-put2-2
@@ -58,7 +58,7 @@ returns-2 : tie.Need-returns-2
 unfolding nextClass withClass classFor
 returns-2 c =
     let a = c .before .before .before .before .before .before .before .before .before .args in
-    let some : labelledBy (a .t .now) (a .states) (a .byte) ≡ 0 → ⊥ = λ e. c .before .before .before .before .if1 .left (cc) in
+    let some : labelledBy (a .t .now) (a .states) (a .byte) ≡ 0 → ⊥ = λ e. c .before .before .before .before .if1 .left (c .before .before .before .before .before .number .ensures ∙ c .before .before .before .before .before .before .labelled .ensures .0 ∙ e) in
     rw (ne-eqb (labelledBy (a .t .now) (a .states) (a .byte)) 0 some) ((refl, c .before .before .put22 .ensures), (omega arith, omega arith))
 
 pub put-class-spec : {M : Type 1} → statement M

@@ -16,14 +16,8 @@ slice-aggregate-build c = sym (length-take-le _ _ (omega arith))
 build-requires : tie.Need-build-requires
 build-requires c κs = search needs
 
-enum-told : tie.Need-enum-told
-enum-told c = search needs
-
-enum-told-2 : tie.Need-enum-told-2
-enum-told-2 c = search needs
-
-enum-told-3 : tie.Need-enum-told-3
-enum-told-3 c = search needs
+number-requires : tie.Need-number-requires
+number-requires c κs = search needs
 
 same-length : tie.Need-same-length
 same-length c = search needs
@@ -31,31 +25,7 @@ same-length c = search needs
 returns-2 : tie.Need-returns-2
 returns-2 c = search needs
 
-same-length-2 : tie.Need-same-length-2
-same-length-2 c = search needs
-
-returns-3 : tie.Need-returns-3
-returns-3 c = search needs
-
-same-length-3 : tie.Need-same-length-3
-same-length-3 c = search needs
-
-returns-4 : tie.Need-returns-4
-returns-4 c = search needs
-
 pub built-spec : {M : Type 1} → statement M
 built-spec =
     tie.close
-    (tie.spec
-    returns
-    slice-aggregate-build
-    build-requires
-    enum-told
-    enum-told-2
-    enum-told-3
-    same-length
-    returns-2
-    same-length-2
-    returns-3
-    same-length-3
-    returns-4)
+    (tie.spec returns slice-aggregate-build build-requires number-requires same-length returns-2)

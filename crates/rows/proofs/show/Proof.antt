@@ -17,11 +17,8 @@ loop-holds c = search needs
 returns : tie.Need-returns Inv-loop μ-loop
 returns c = search needs
 
-slice-aggregate-text : tie.Need-slice-aggregate-text Inv-loop μ-loop
-slice-aggregate-text c = search needs
-
-text-requires : tie.Need-text-requires Inv-loop μ-loop
-text-requires c κs = search needs
+slice-aggregate-told : tie.Need-slice-aggregate-told Inv-loop μ-loop
+slice-aggregate-told c = search needs
 
 mul-four64 : tie.Need-mul-four64 Inv-loop μ-loop
 mul-four64 c = search needs
@@ -35,14 +32,11 @@ element-copy-out-four64 c = search needs
 four64-requires : tie.Need-four64-requires Inv-loop μ-loop
 four64-requires c κs = search needs
 
-number-requires : tie.Need-number-requires Inv-loop μ-loop
-number-requires c κs = search needs
+told-requires : tie.Need-told-requires Inv-loop μ-loop
+told-requires c κs = search needs
 
-slice-aggregate-text-2 : tie.Need-slice-aggregate-text-2 Inv-loop μ-loop
-slice-aggregate-text-2 c = search needs
-
-text-requires-2 : tie.Need-text-requires-2 Inv-loop μ-loop
-text-requires-2 c κs = search needs
+slice-aggregate-told-2 : tie.Need-slice-aggregate-told-2 Inv-loop μ-loop
+slice-aggregate-told-2 c = search needs
 
 mul-four64-3 : tie.Need-mul-four64-3 Inv-loop μ-loop
 mul-four64-3 c = search needs
@@ -59,14 +53,14 @@ element-copy-out-four64-2 c = search needs
 four64-requires-2 : tie.Need-four64-requires-2 Inv-loop μ-loop
 four64-requires-2 c κs = search needs
 
-number-requires-2 : tie.Need-number-requires-2 Inv-loop μ-loop
-number-requires-2 c κs = search needs
+told-requires-2 : tie.Need-told-requires-2 Inv-loop μ-loop
+told-requires-2 c κs = search needs
 
-slice-aggregate-text-3 : tie.Need-slice-aggregate-text-3 Inv-loop μ-loop
-slice-aggregate-text-3 c = search needs
+slice-aggregate-text : tie.Need-slice-aggregate-text Inv-loop μ-loop
+slice-aggregate-text c = search needs
 
-text-requires-3 : tie.Need-text-requires-3 Inv-loop μ-loop
-text-requires-3 c κs = search needs
+text-requires : tie.Need-text-requires Inv-loop μ-loop
+text-requires c κs = search needs
 
 add-i : tie.Need-add-i Inv-loop μ-loop
 add-i c = search needs
@@ -88,23 +82,21 @@ show-spec =
     μ-loop
     loop-holds
     returns
-    slice-aggregate-text
-    text-requires
+    slice-aggregate-told
     mul-four64
     mul-four64-2
     element-copy-out-four64
     four64-requires
-    number-requires
-    slice-aggregate-text-2
-    text-requires-2
+    told-requires
+    slice-aggregate-told-2
     mul-four64-3
     add-four64
     mul-four64-4
     element-copy-out-four64-2
     four64-requires-2
-    number-requires-2
-    slice-aggregate-text-3
-    text-requires-3
+    told-requires-2
+    slice-aggregate-text
+    text-requires
     add-i
     loop-less
     loop-again

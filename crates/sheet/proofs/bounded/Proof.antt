@@ -1,7 +1,8 @@
 -- The record's bytes are written one after the other.
 -- Assumes nothing.
+use mathlib.Core.Path.{ap, _∙_}
 use borrow.Author.Needs.{needs}
-use Rattle.sheet.specs.Sheets.{withAll, boundedOf}
+use Rattle.sheet.specs.Sheets.{Sheet, withAll, twoBytes, boundedOf}
 use Rattle.sheet.proofs.bounded.Statement.{statement}
 use Rattle.sheet.proofs.bounded.Tie as tie
 
@@ -19,7 +20,9 @@ same-length c = search needs
 
 returns : tie.Need-returns
 unfolding withAll boundedOf
-returns c = cc
+returns c =
+    let a = c .before .before .before .before .before .before .before .before .before .before .before .before .before .args in
+    c .before .before .two2 .ensures ∙ ap (λ (sheet : Sheet). withAll sheet (twoBytes (a .most))) (c .before .before .before .before .before .before .two .ensures ∙ ap (λ (sheet : Sheet). withAll sheet (twoBytes (a .least))) (c .before .before .before .before .before .before .before .before .before .before .byte .ensures))
 
 pub bounded-spec : {M : Type 1} → statement M
 bounded-spec = tie.close (tie.spec byte-requires two-requires two-requires-2 same-length returns)

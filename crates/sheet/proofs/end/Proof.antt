@@ -1,7 +1,8 @@
 -- The record's bytes are written one after the other.
 -- Assumes nothing.
+use mathlib.Core.Path.{ap, _∙_}
 use borrow.Author.Needs.{needs}
-use Rattle.sheet.specs.Sheets.{withAll, endOf}
+use Rattle.sheet.specs.Sheets.{Sheet, withAll, twoBytes, endOf}
 use Rattle.sheet.proofs.end.Statement.{statement}
 use Rattle.sheet.proofs.end.Tie as tie
 
@@ -16,7 +17,9 @@ same-length c = search needs
 
 returns : tie.Need-returns
 unfolding withAll endOf
-returns c = cc
+returns c =
+    let a = c .before .before .before .before .before .before .before .before .before .args in
+    c .before .before .two .ensures ∙ ap (λ (sheet : Sheet). withAll sheet (twoBytes (a .phrases))) (c .before .before .before .before .before .before .byte .ensures)
 
 pub end-spec : {M : Type 1} → statement M
 end-spec = tie.close (tie.spec byte-requires two-requires same-length returns)

@@ -1,7 +1,8 @@
 -- The record's bytes are written one after the other.
 -- Assumes nothing.
+use mathlib.Core.Path.{ap, _∙_}
 use borrow.Author.Needs.{needs}
-use Rattle.sheet.specs.Sheets.{withAll, openOf}
+use Rattle.sheet.specs.Sheets.{Sheet, withAll, twoBytes, openOf}
 use Rattle.sheet.proofs.open.Statement.{statement}
 use Rattle.sheet.proofs.open.Tie as tie
 
@@ -16,7 +17,9 @@ same-length c = search needs
 
 returns : tie.Need-returns
 unfolding withAll openOf
-returns c = cc
+returns c =
+    let a = c .before .before .before .before .before .before .before .before .before .args in
+    c .before .before .two .ensures ∙ ap (λ (sheet : Sheet). withAll sheet (twoBytes (a .least))) (c .before .before .before .before .before .before .byte .ensures)
 
 pub open-spec : {M : Type 1} → statement M
 open-spec = tie.close (tie.spec byte-requires two-requires same-length returns)

@@ -1,7 +1,8 @@
 -- The record's bytes are written one after the other.
 -- Assumes nothing.
+use mathlib.Core.Path.{ap, _∙_}
 use borrow.Author.Needs.{needs}
-use Rattle.sheet.specs.Sheets.{withAll, phraseOf}
+use Rattle.sheet.specs.Sheets.{Sheet, withByte, withAll, twoBytes, phraseOf}
 use Rattle.sheet.proofs.phrase.Statement.{statement}
 use Rattle.sheet.proofs.phrase.Tie as tie
 
@@ -19,7 +20,9 @@ same-length c = search needs
 
 returns : tie.Need-returns
 unfolding withAll phraseOf
-returns c = cc
+returns c =
+    let a = c .before .before .before .before .before .before .before .before .before .before .before .before .before .args in
+    c .before .before .byte2 .ensures ∙ ap (λ (sheet : Sheet). withByte sheet (a .rights)) (c .before .before .before .before .before .before .two .ensures ∙ ap (λ (sheet : Sheet). withAll sheet (twoBytes (a .number))) (c .before .before .before .before .before .before .before .before .before .before .byte .ensures))
 
 pub phrase-spec : {M : Type 1} → statement M
 phrase-spec = tie.close (tie.spec byte-requires two-requires byte-requires-2 same-length returns)
