@@ -9,7 +9,7 @@ use Rattle.tables.specs.Reads.{stateCountIn}
 use Rattle.gliding.specs.Foreseen.{afterFrom, Looked}
 use Rattle.gliding.proofs.Foreseen.{after-add, after-inside}
 use Rattle.ahead.specs.Ahead.{Listed, Ran, Mended}
-use Rattle.ahead.specs.declared.Cursors.{Cursors}
+use Rattle.ahead.specs.declared.turn.Cursors.{Cursors}
 use Rattle.ahead.proofs.Turns.{each-quarter}
 
 module _ (t part : List ℕ) where

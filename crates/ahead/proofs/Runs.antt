@@ -14,7 +14,7 @@ use Rattle.gliding.specs.Foreseen.{afterFrom}
 use Rattle.gliding.proofs.Foreseen.{after-more}
 use Rattle.ahead.specs.Cursors.{cursor, Below, Turned, withFour}
 use Rattle.ahead.specs.Ahead.{Listed, Ran, Mended}
-use Rattle.ahead.specs.declared.Cursors.{Cursors}
+use Rattle.ahead.specs.declared.turn.Cursors.{Cursors}
 use Rattle.ahead.proofs.Turns.{turned-each, length-four, four-there, four-before}
 
 module _ (t part : List ℕ) where

@@ -15,7 +15,7 @@ use Rattle.gliding.proofs.Seeking.{row-cell, sought-dense}
 use Rattle.gliding.proofs.Turns.{quick-found, quick-inside}
 use Rattle.ahead.specs.Columns.{columnsFit}
 use Rattle.ahead.specs.Cursors.{cursor, Below, ColumnOf, Turned, withFour}
-use Rattle.ahead.specs.declared.Cursors.{Cursors}
+use Rattle.ahead.specs.declared.turn.Cursors.{Cursors}
 use Rattle.ahead.proofs.Fits.{columns-within}
 
 -- ── One cell ──

@@ -9,7 +9,7 @@ use Rattle.tables.specs.Reads.{Whole, stateCountIn, denseIn}
 use Rattle.gliding.specs.Foreseen.{afterFrom}
 use Rattle.ahead.specs.Columns.{columnsFit}
 use Rattle.ahead.specs.Cursors.{cursor, Below}
-use Rattle.ahead.specs.declared.Cursors.{Cursors}
+use Rattle.ahead.specs.declared.turn.Cursors.{Cursors}
 
 -- Every fourth number, for so many bytes of quarter k, is the state that the byte leads to, where the quarter begins at a byte of the part and in a state.
 pub record Listed (t part : List ℕ) (from state count k : ℕ) (ahead : List ℕ) : Type 0 where

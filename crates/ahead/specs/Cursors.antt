@@ -8,8 +8,8 @@ use Rattle.tables.specs.Layout.{roomForStates}
 use Rattle.tables.specs.Reads.{Whole, stateCountIn, denseIn, columnIn}
 use Rattle.gliding.specs.Quick.{soughtIn, quickIn}
 use Rattle.ahead.specs.Columns.{columnsFit}
-use Rattle.ahead.specs.declared.Columns.{Columns}
-use Rattle.ahead.specs.declared.Cursors.{Cursors}
+use Rattle.ahead.specs.declared.turn.Columns.{Columns}
+use Rattle.ahead.specs.declared.turn.Cursors.{Cursors}
 
 -- The cursor over a quarter, the first being 0.
 abbrev pub cursor : Cursors → ℕ → ℕ

@@ -6,8 +6,8 @@ use borrow.Author.Tests.{not-false}
 use lib.ListN.{getD}
 use Rattle.ahead.proofs.Turns.{found-quick, chosen-quick, chosen-inside}
 use borrow.Author.Needs.{needs}
-use Rattle.ahead.proofs.turn.Statement.{statement}
-use Rattle.ahead.proofs.turn.Tie as tie
+use Rattle.ahead.proofs.turn.turn.Statement.{statement}
+use Rattle.ahead.proofs.turn.turn.Tie as tie
 
 columns-at-requires : tie.Need-columns-at-requires
 columns-at-requires c κs = c .before .before .pre

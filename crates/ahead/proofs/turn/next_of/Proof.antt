@@ -3,8 +3,8 @@
 use native.Mathlib.Omega.{arith}
 use Rattle.ahead.proofs.Turns.{cell-found, chosen-quick, chosen-inside}
 use borrow.Author.Needs.{needs}
-use Rattle.ahead.proofs.next_of.Statement.{statement}
-use Rattle.ahead.proofs.next_of.Tie as tie
+use Rattle.ahead.proofs.turn.next_of.Statement.{statement}
+use Rattle.ahead.proofs.turn.next_of.Tie as tie
 
 cell-of-requires : tie.Need-cell-of-requires
 cell-of-requires c κs = search needs

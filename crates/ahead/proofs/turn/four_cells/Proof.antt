@@ -3,8 +3,8 @@
 use Prim.Native.Nat.{_+_, _*_}
 use lib.ListN.{getD}
 use Rattle.ahead.proofs.Turns.{cell-room, cell-found}
-use Rattle.ahead.proofs.four_cells.Statement.{statement}
-use Rattle.ahead.proofs.four_cells.Tie as tie
+use Rattle.ahead.proofs.turn.four_cells.Statement.{statement}
+use Rattle.ahead.proofs.turn.four_cells.Tie as tie
 
 cell-of-requires : tie.Need-cell-of-requires
 cell-of-requires c κs =

@@ -1,8 +1,8 @@
 -- The two ends are the two sides of the test.
 -- Assumes nothing.
 use borrow.Author.Tests.{lt-ltb, le-ltb}
-use Rattle.ahead.proofs.state_or_root.Statement.{statement}
-use Rattle.ahead.proofs.state_or_root.Tie as tie
+use Rattle.ahead.proofs.turn.state_or_root.Statement.{statement}
+use Rattle.ahead.proofs.turn.state_or_root.Tie as tie
 
 returns : tie.Need-returns
 returns c = rw (lt-ltb (c .before .args .found) (c .before .args .states) (c .if1 .taken))

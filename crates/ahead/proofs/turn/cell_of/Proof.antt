@@ -5,8 +5,8 @@ use native.Mathlib.Omega.{arith}
 use lib.ListN.{length}
 use Rattle.tables.proofs.Cells.{cell-in}
 use borrow.Author.Needs.{needs}
-use Rattle.ahead.proofs.cell_of.Statement.{statement}
-use Rattle.ahead.proofs.cell_of.Tie as tie
+use Rattle.ahead.proofs.turn.cell_of.Statement.{statement}
+use Rattle.ahead.proofs.turn.cell_of.Tie as tie
 
 sub-get2 : tie.Need-sub-get2
 sub-get2 c = search needs

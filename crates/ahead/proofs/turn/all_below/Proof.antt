@@ -2,8 +2,8 @@
 -- Assumes nothing.
 use mathlib.Core.Bool.{false≢true}
 use borrow.Author.Needs.{needs}
-use Rattle.ahead.proofs.all_below.Statement.{statement}
-use Rattle.ahead.proofs.all_below.Tie as tie
+use Rattle.ahead.proofs.turn.all_below.Statement.{statement}
+use Rattle.ahead.proofs.turn.all_below.Tie as tie
 
 returns : tie.Need-returns
 returns c = λ e. absurd (false≢true e)

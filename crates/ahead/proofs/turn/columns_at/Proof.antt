@@ -6,8 +6,8 @@ use lib.ListN.{getD}
 use Rattle.tables.specs.Layout.{roomForStates}
 use Rattle.ahead.proofs.Turns.{column-of}
 use borrow.Author.Needs.{needs}
-use Rattle.ahead.proofs.columns_at.Statement.{statement}
-use Rattle.ahead.proofs.columns_at.Tie as tie
+use Rattle.ahead.proofs.turn.columns_at.Statement.{statement}
+use Rattle.ahead.proofs.turn.columns_at.Tie as tie
 
 shared-slice-read-column : tie.Need-shared-slice-read-column
 shared-slice-read-column c = search needs
