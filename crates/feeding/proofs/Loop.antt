@@ -16,7 +16,7 @@ use Rattle.gliding.specs.declared.Way.{Way}
 use Rattle.gliding.specs.Glide.{glideIn, goneBy, glideOf, GlideReady, GlideKept}
 use Rattle.gliding.specs.Foreseen.{afterFrom, Foreseen}
 use Rattle.gliding.proofs.Foreseen.{foreseen-on}
-use Rattle.feeding.specs.Taken.{Run, runOf, progressOn, wayFrom}
+use Rattle.feeding.specs.Taken.{Run, runOf, progressOn, wayFrom, freeAfter}
 use Rattle.feeding.specs.Ready.{ReadyOn, Took}
 use Rattle.feeding.specs.declared.Progress.{Progress}
 use Rattle.feeding.proofs.Turns.{settled, part-full, rest-part, Taking, taking-start, taking-end, few-after, taking-full, taking-next, left, left-less}
@@ -32,7 +32,7 @@ pub record Turning (t part m₀ room₀ : List ℕ) (phrases free : ℕ) (way₀
 pub record Begun (t part m₀ room₀ : List ℕ) (from : Progress) (phrases : ℕ) (way₀ : Way) : Type 0 where
   pub on : ReadyOn t m₀ part (length room₀ / 2) from
   pub counted : phrases ≡ phraseCountIn t
-  pub enough : phrases ≤ length room₀ / 2 - from .written
+  pub enough : phrases ≤ freeAfter (length room₀ / 2) (runOf from m₀ room₀)
   pub glides : glideOf way₀ ≡ glideIn t m₀ (drop (from .taken) part) (goneBy (wayFrom from))
   pub kept : GlideKept t part (wayFrom from) way₀
 
@@ -58,13 +58,13 @@ module _ {t part m₀ : List ℕ} {room : ℕ} {from : Progress} (on : ReadyOn t
 
 module _ {t part m₀ room₀ : List ℕ} {from : Progress} (on : ReadyOn t m₀ part (length room₀ / 2) from) where
   -- Where the room is too small no byte is taken.
-  pub rest-full : {phrases : ℕ} → phrases ≡ phraseCountIn t → length room₀ / 2 - from .written < phrases → Took t part (length room₀ / 2) m₀ room₀ from m₀ room₀ from
+  pub rest-full : {phrases : ℕ} → phrases ≡ phraseCountIn t → freeAfter (length room₀ / 2) (runOf from m₀ room₀) < phrases → Took t part (length room₀ / 2) m₀ room₀ from m₀ room₀ from
   rest-full counted full = record {
     all = sym (part-full t (length room₀ / 2) part (drop (from .taken) part) (runOf from m₀ room₀) (omega arith));
     kept = record { kept = on .kept; few = on .few; early = omega arith };
   }
 
-  pub begins : {phrases : ℕ} {begun way₀ : Way} → phrases ≡ phraseCountIn t → phrases ≤ length room₀ / 2 - from .written → begun ≡ wayFrom from
+  pub begins : {phrases : ℕ} {begun way₀ : Way} → phrases ≡ phraseCountIn t → phrases ≤ freeAfter (length room₀ / 2) (runOf from m₀ room₀) → begun ≡ wayFrom from
       → glideOf way₀ ≡ glideIn t m₀ (drop (begun .taken) part) (goneBy begun) → GlideKept t part begun way₀ → Begun t part m₀ room₀ from phrases way₀
   begins counted enough is glides kept = record { on = on; counted = counted; enough = enough; glides = rw is at glides; kept = rw is at kept }
 
@@ -123,7 +123,7 @@ module _ {t part m₀ room₀ : List ℕ} {from : Progress} {phrases : ℕ} {way
       pub turning-few : written₁ ≤ length room₀ / 2
       turning-few = few-after t (length room₀ / 2) part _ _ run (way .event) (turning .taking) event (hereWith written₁ room₁ m₁) what
 
-      pub turning-full : length room₀ / 2 - written₁ < phrases → {to : Progress} → to ≡ progressOn way written₁ → Took t part (length room₀ / 2) m₀ room₀ from m₁ room₁ to
+      pub turning-full : freeAfter (length room₀ / 2) (runOf (progressOn way written₁) m₁ room₁) < phrases → {to : Progress} → to ≡ progressOn way written₁ → Took t part (length room₀ / 2) m₀ room₀ from m₁ room₁ to
       turning-full full =
           taken-by m₁ room₁ written₁
           (taking-full t (length room₀ / 2) part _ _ run (way .event) (turning .taking) event (hereWith written₁ room₁ m₁) what (omega (arith, begun .counted)))
@@ -133,7 +133,7 @@ module _ {t part m₀ room₀ : List ℕ} {from : Progress} {phrases : ℕ} {way
       turning-ready long =
           way-ready (begun .on) m₁ way (long ∙ turning .taking .long) (turning .taking .inside) (turning .taking .within) early (turning .taking .few-gains)
 
-      pub turning-next : phrases ≤ length room₀ / 2 - written₁ → {next : Way} → glideOf next ≡ glideIn t m₁ (drop (way .taken) part) (goneBy way)
+      pub turning-next : phrases ≤ freeAfter (length room₀ / 2) (runOf (progressOn way written₁) m₁ room₁) → {next : Way} → glideOf next ≡ glideIn t m₁ (drop (way .taken) part) (goneBy way)
           → GlideKept t part way next → Turning t part m₀ room₀ phrases (length room₀ / 2) way₀ (from .written) m₁ room₁ next written₁
       turning-next free {next} glides kept = record {
         counted = begun .counted;

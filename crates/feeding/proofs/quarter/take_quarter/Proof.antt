@@ -67,7 +67,8 @@ sub-if2 c =
     let at = c .before .before .before .before .before .before .before .before .before .before in
     let entry = at .before .before .before .before .before .before .before .before .before .before .before .before in
     let begun = begins (entry .pre .on) (at .before .before .before .before .before .before .phrase-count .ensures .0) (at .before .before .before .before .if1 .left) (at .before .before .way-from .ensures) (at .before .skim .ensures .0) (at .before .skim .ensures .1) in
-    turning-few begun (at .loop .inv .0) (c .before .before .before .before .before .before .before .before .before .loop-test .taken) (c .before .before .before .before .happen .ensures)
+    let few = turning-few begun (at .loop .inv .0) (c .before .before .before .before .before .before .before .before .before .loop-test .taken) (c .before .before .before .before .happen .ensures) in
+    omega arith
 
 progress-on-requires : tie.Need-progress-on-requires Inv-loop μ-loop
 progress-on-requires c κs = search needs
@@ -83,7 +84,7 @@ returns-2 c =
     let at = c .before .before .before .before .before .before .before .before .before .before .before .before in
     let entry = at .before .before .before .before .before .before .before .before .before .before .before .before in
     let begun = begins (entry .pre .on) (at .before .before .before .before .before .before .phrase-count .ensures .0) (at .before .before .before .before .if1 .left) (at .before .before .way-from .ensures) (at .before .skim .ensures .0) (at .before .skim .ensures .1) in
-    turning-full begun (at .loop .inv .0) (c .before .before .before .before .before .before .before .before .before .before .before .loop-test .taken) (c .before .before .before .before .before .before .happen .ensures) (c .before .if2 .taken) (c .progress-on .ensures)
+    turning-full begun (at .loop .inv .0) (c .before .before .before .before .before .before .before .before .before .before .before .loop-test .taken) (c .before .before .before .before .before .before .happen .ensures) (omega (arith, c .before .if2 .taken)) (c .progress-on .ensures)
 
 skim-requires-2 : tie.Need-skim-requires-2 Inv-loop μ-loop
 skim-requires-2 c κs =
@@ -111,7 +112,7 @@ loop-again c =
     let entry = at .before .before .before .before .before .before .before .before .before .before .before .before in
     let begun = begins (entry .pre .on) (at .before .before .before .before .before .before .phrase-count .ensures .0) (at .before .before .before .before .if1 .left) (at .before .before .way-from .ensures) (at .before .skim .ensures .0) (at .before .skim .ensures .1) in
     let kept = c .skim2 .ensures .1 in (
-      turning-next begun (at .loop .inv .0) (c .before .before .before .before .before .before .before .before .before .before .before .before .loop-test .taken) (c .before .before .before .before .before .before .before .happen .ensures) (c .before .before .if2 .left) (c .skim2 .ensures .0) (c .skim2 .ensures .1),
+      turning-next begun (at .loop .inv .0) (c .before .before .before .before .before .before .before .before .before .before .before .before .loop-test .taken) (c .before .before .before .before .before .before .before .happen .ensures) (omega (arith, c .before .before .if2 .left)) (c .skim2 .ensures .0) (c .skim2 .ensures .1),
       omega (arith, at .loop .inv .1, kept .onward),
       foreseen-next (at .loop .way) (c .skim2 .result) (at .loop .inv .2) (kept .onward) (c .skim2 .ensures .2),
     )

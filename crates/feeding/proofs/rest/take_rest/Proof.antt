@@ -51,7 +51,8 @@ sub-if2 c =
     let at = c .before .before .before .before .before .before .before .before .before .before in
     let entry = at .before .before .before .before .before .before .before .before .before .before .before in
     let begun = begins (entry .pre) (at .before .before .before .before .before .before .phrase-count .ensures .0) (at .before .before .before .before .if1 .left) (at .before .before .way-from .ensures) (at .before .glide .ensures .0) (at .before .glide .ensures .1) in
-    turning-few begun (at .loop .inv) (c .before .before .before .before .before .before .before .before .before .loop-test .taken) (c .before .before .before .before .happen .ensures)
+    let few = turning-few begun (at .loop .inv) (c .before .before .before .before .before .before .before .before .before .loop-test .taken) (c .before .before .before .before .happen .ensures) in
+    omega arith
 
 progress-on-requires : tie.Need-progress-on-requires Inv-loop μ-loop
 progress-on-requires c κs = search needs
@@ -67,7 +68,7 @@ returns-2 c =
     let at = c .before .before .before .before .before .before .before .before .before .before .before .before in
     let entry = at .before .before .before .before .before .before .before .before .before .before .before in
     let begun = begins (entry .pre) (at .before .before .before .before .before .before .phrase-count .ensures .0) (at .before .before .before .before .if1 .left) (at .before .before .way-from .ensures) (at .before .glide .ensures .0) (at .before .glide .ensures .1) in
-    turning-full begun (at .loop .inv) (c .before .before .before .before .before .before .before .before .before .before .before .loop-test .taken) (c .before .before .before .before .before .before .happen .ensures) (c .before .if2 .taken) (c .progress-on .ensures)
+    turning-full begun (at .loop .inv) (c .before .before .before .before .before .before .before .before .before .before .before .loop-test .taken) (c .before .before .before .before .before .before .happen .ensures) (omega (arith, c .before .if2 .taken)) (c .progress-on .ensures)
 
 glide-requires-2 : tie.Need-glide-requires-2 Inv-loop μ-loop
 glide-requires-2 c κs =
@@ -88,7 +89,7 @@ loop-again c =
     let at = c .before .before .before .before .before .before .before .before .before .before .before .before .before in
     let entry = at .before .before .before .before .before .before .before .before .before .before .before in
     let begun = begins (entry .pre) (at .before .before .before .before .before .before .phrase-count .ensures .0) (at .before .before .before .before .if1 .left) (at .before .before .way-from .ensures) (at .before .glide .ensures .0) (at .before .glide .ensures .1) in
-    turning-next begun (at .loop .inv) (c .before .before .before .before .before .before .before .before .before .before .before .before .loop-test .taken) (c .before .before .before .before .before .before .before .happen .ensures) (c .before .before .if2 .left) (c .glide2 .ensures .0) (c .glide2 .ensures .1)
+    turning-next begun (at .loop .inv) (c .before .before .before .before .before .before .before .before .before .before .before .before .loop-test .taken) (c .before .before .before .before .before .before .before .happen .ensures) (omega (arith, c .before .before .if2 .left)) (c .glide2 .ensures .0) (c .glide2 .ensures .1)
 
 progress-on-requires-2 : tie.Need-progress-on-requires-2 Inv-loop μ-loop
 progress-on-requires-2 c κs = search needs
