@@ -103,12 +103,13 @@ pub fn mark(t: &[u8]) -> u64
     lent::get8(t, layout::MARK)
 }
 
-// Where the column of a byte begins: a column has a cell for each state with a row.
+// Where the column of a byte begins: a column has a cell for each state with a row. Read as the columns' own part of the memory, its place is the byte's
+// alone, and a loop need not reckon it anew; so with the infos below.
 pub fn column(t: &[u8], byte: u8) -> usize
     requires { ⌜ Whole (now t) ⌝ }
     ensures { λ r. ⌜ (r ≡ columnIn (now (t .entry)) byte) × (r < 65536) ⌝ }
 {
-    lent::pair_size(lent::get2(t, layout::COLUMN + 2 * lent::wide_size(byte)))
+    lent::pair_size(lent::get2(&t[layout::COLUMN..], 2 * lent::wide_size(byte)))
 }
 
 // The number in a state's cell of the column that begins at a place: the next state. The column is a part of the memory.
@@ -132,7 +133,8 @@ pub fn info(t: &[u8], state: State) -> u8
     requires { ⌜ (Whole (now t)) × (state .0 < roomForStates) ⌝ }
     ensures { λ r. ⌜ r ≡ infoIn (now (t .entry)) (state .0) ⌝ }
 {
-    t[layout::INFO + state.index()]
+    let infos = &t[layout::INFO..];
+    infos[state.index()]
 }
 
 // What a byte into the state leaves of the one that it may add to the depth.
