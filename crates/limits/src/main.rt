@@ -53,20 +53,22 @@ fn number(n: usize) {
     io::print_decimal(STDOUT_FILENO, n as u64);
 }
 
+// Words, and the number that they name.
+fn told(words: &[u8], n: usize) {
+    text(words);
+    number(n);
+}
+
 fn judged(book: &[u8]) {
     let answer = book::judge(book);
     match answer {
         Judged::Accepted { length, phrases } => {
-            text(b"book 0 at ");
-            number(length);
-            text(b" phrases ");
-            number(phrases);
+            told(b"book 0 at ", length);
+            told(b" phrases ", phrases);
         }
         Judged::Refused { why, at } => {
-            text(b"book ");
-            number(lent::wide_size(why.number()));
-            text(b" at ");
-            number(at);
+            told(b"book ", lent::wide_size(why.number()));
+            told(b" at ", at);
         }
     }
     text(b"\n");
@@ -85,8 +87,7 @@ fn line(what: &[u8], book: &[u8], end: usize) {
 
 // A line whose words end in a number.
 fn numbered(what: &[u8], n: usize, book: &[u8], end: usize) {
-    text(what);
-    number(n);
+    told(what, n);
     line(b"", book, end);
 }
 
@@ -256,16 +257,24 @@ fn small_pieces(what: &[u8], count: usize, each: usize, phrases: u16) {
     line(what, &book, end);
 }
 
-// The longest book: 128 phrases of two pieces, each a bounded gap and a keyword of 32 bytes.
+// A bounded gap and a keyword of 32 bytes.
+fn longest_piece(book: &mut [u8], at: usize) -> usize {
+    let word = sheet::bounded(book, at, 0, 0);
+    keyword(book, word, LONGEST_KEYWORD, b'a', b'b')
+}
+
+fn longest_phrase(book: &mut [u8], at: usize, number: u16) -> usize {
+    let first = sheet::phrase(book, at, number, 1);
+    let second = longest_piece(book, first);
+    longest_piece(book, second)
+}
+
+// The longest book: 128 phrases of two such pieces.
 fn longest() {
     let mut book = [0u8; ROOM];
     let mut at = sheet::header(&mut book, 0, 1);
     for n in 0..128u16 {
-        at = sheet::phrase(&mut book, at, n + 1, 1);
-        at = sheet::bounded(&mut book, at, 0, 0);
-        at = keyword(&mut book, at, LONGEST_KEYWORD, b'a', b'b');
-        at = sheet::bounded(&mut book, at, 0, 0);
-        at = keyword(&mut book, at, LONGEST_KEYWORD, b'a', b'b');
+        at = longest_phrase(&mut book, at, n + 1);
     }
     let end = sheet::end(&mut book, at, 128);
     line(b"the longest book", &book, end);
@@ -378,6 +387,9 @@ fn counts() {
     small_pieces(b"256 pieces", 256, 8, 32);
     small_pieces(b"257 pieces", 257, 8, 33);
     longest();
+}
+
+fn prefixes() {
     without_sharing(b"2047 prefixes", 31);
     without_sharing(b"2048 prefixes", 32);
     with_sharing(b"2047 prefixes, shared", 0, 0);
@@ -395,4 +407,5 @@ fn main() {
     kinds();
     order_and_end();
     counts();
+    prefixes();
 }

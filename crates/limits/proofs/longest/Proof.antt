@@ -23,38 +23,14 @@ header-requires c κs = search needs
 loop-holds : tie.Need-loop-holds Inv-loop μ-loop
 loop-holds c = search needs
 
-slice-aggregate-phrase : tie.Need-slice-aggregate-phrase Inv-loop μ-loop
-slice-aggregate-phrase c = search needs
+slice-aggregate-longest-phrase : tie.Need-slice-aggregate-longest-phrase Inv-loop μ-loop
+slice-aggregate-longest-phrase c = search needs
 
-add-phrase : tie.Need-add-phrase Inv-loop μ-loop
-add-phrase c = search needs
+add-longest-phrase : tie.Need-add-longest-phrase Inv-loop μ-loop
+add-longest-phrase c = search needs
 
-phrase-requires : tie.Need-phrase-requires Inv-loop μ-loop
-phrase-requires c κs = search needs
-
-slice-aggregate-bounded : tie.Need-slice-aggregate-bounded Inv-loop μ-loop
-slice-aggregate-bounded c = search needs
-
-bounded-requires : tie.Need-bounded-requires Inv-loop μ-loop
-bounded-requires c κs = search needs
-
-slice-aggregate-keyword : tie.Need-slice-aggregate-keyword Inv-loop μ-loop
-slice-aggregate-keyword c = search needs
-
-keyword-requires : tie.Need-keyword-requires Inv-loop μ-loop
-keyword-requires c κs = search needs
-
-slice-aggregate-bounded-2 : tie.Need-slice-aggregate-bounded-2 Inv-loop μ-loop
-slice-aggregate-bounded-2 c = search needs
-
-bounded-requires-2 : tie.Need-bounded-requires-2 Inv-loop μ-loop
-bounded-requires-2 c κs = search needs
-
-slice-aggregate-keyword-2 : tie.Need-slice-aggregate-keyword-2 Inv-loop μ-loop
-slice-aggregate-keyword-2 c = search needs
-
-keyword-requires-2 : tie.Need-keyword-requires-2 Inv-loop μ-loop
-keyword-requires-2 c κs = search needs
+longest-phrase-requires : tie.Need-longest-phrase-requires Inv-loop μ-loop
+longest-phrase-requires c κs = search needs
 
 add-n : tie.Need-add-n Inv-loop μ-loop
 add-n c = search needs
@@ -92,17 +68,9 @@ longest-spec =
     slice-aggregate-header
     header-requires
     loop-holds
-    slice-aggregate-phrase
-    add-phrase
-    phrase-requires
-    slice-aggregate-bounded
-    bounded-requires
-    slice-aggregate-keyword
-    keyword-requires
-    slice-aggregate-bounded-2
-    bounded-requires-2
-    slice-aggregate-keyword-2
-    keyword-requires-2
+    slice-aggregate-longest-phrase
+    add-longest-phrase
+    longest-phrase-requires
     add-n
     loop-less
     loop-again
