@@ -1,5 +1,5 @@
--- One turn of a loop that glides and does what happens: what holds before it, at each of its calls, and where it ends. The rest of a part and a quarter
--- whose states are known are taken by the same turns.
+-- One turn of a loop that glides and does what happens: what is left after it comes to what was left before. The rest of a part and a quarter whose states
+-- are known are taken by the same turns.
 -- Assumes nothing.
 use mathlib.Core.Path.{_≡_, refl, sym, ap, _∙_}
 use mathlib.Core.Bool.{true, false}
@@ -9,138 +9,133 @@ use native.Mathlib.Omega.{arith}
 use lib.ListN.{length, drop}
 use Rattle.counters.specs.Counters.{InLetter}
 use Rattle.tables.specs.Layout.{roomForStates, roomForPhrases}
-use Rattle.tables.specs.Reads.{Whole, stateCountIn, phraseCountIn}
+use Rattle.tables.specs.Reads.{Whole, phraseCountIn}
 use Rattle.running.specs.Reads.{WholeRunning}
-use Rattle.window.specs.Happened.{hereWith, happened}
+use Rattle.window.specs.Happened.{Here, hereWith, happened}
+use Rattle.window.proofs.Happened.{happened-few}
 use Rattle.gliding.specs.declared.Way.{Way}
 use Rattle.gliding.specs.Glide.{glideIn, goneBy, glideOf, GlideReady, GlideKept}
 use Rattle.gliding.specs.Foreseen.{afterFrom, Foreseen}
 use Rattle.gliding.proofs.Foreseen.{foreseen-on}
-use Rattle.feeding.specs.Taken.{Run, runOf, progressOn, wayFrom, freeAfter}
-use Rattle.feeding.specs.Ready.{ReadyOn, Took}
+use Rattle.feeding.specs.Taken.{Run, runOf, progressOn, wayFrom, freeAfter, partTaken, toCome}
+use Rattle.feeding.specs.Ready.{ReadyOn, Took, Passed}
 use Rattle.feeding.specs.declared.Progress.{Progress}
-use Rattle.feeding.proofs.Turns.{settled, part-full, rest-part, Taking, taking-start, taking-end, few-after, taking-full, taking-next, left, left-less}
+use Rattle.feeding.proofs.Turns.{goneOf, wentTo, settled, part-full, rest-part}
 
--- What holds before each turn, once bytes were first glided over.
+-- What holds before each turn: some bytes have been passed.
 pub record Turning (t part m₀ room₀ : List ℕ) (phrases free : ℕ) (way₀ : Way) (written₀ : ℕ) (m room : List ℕ) (way : Way) (written : ℕ) : Type 0 where
   pub counted : phrases ≡ phraseCountIn t
-  pub roomy : free ≡ length room₀ / 2
-  pub taking : Taking t (length room₀ / 2) part (runOf (progressOn way₀ written₀) m₀ room₀)
-      (settled t (length room₀ / 2) part (runOf (progressOn way₀ written₀) m₀ room₀) (way₀ .event)) (runOf (progressOn way written) m room) (way .event)
+  pub spare : free ≡ length room₀ / 2
+  pub passed : Passed t part (length room₀ / 2) m₀ room₀ (progressOn way₀ written₀) m room (progressOn way written)
+  pub long : length m ≡ length m₀
+  pub roomy : length room ≡ length room₀
 
--- Before the first turn: there was room, and bytes were glided over from where the call had come to.
-pub record Begun (t part m₀ room₀ : List ℕ) (from : Progress) (phrases : ℕ) (way₀ : Way) : Type 0 where
-  pub on : ReadyOn t m₀ part (length room₀ / 2) from
-  pub counted : phrases ≡ phraseCountIn t
-  pub enough : phrases ≤ freeAfter (length room₀ / 2) (runOf from m₀ room₀)
-  pub glides : glideOf way₀ ≡ glideIn t m₀ (drop (from .taken) part) (goneBy (wayFrom from))
-  pub kept : GlideKept t part (wayFrom from) way₀
+-- The first turn begins where the call has come to.
+module _ {t part m₀ : List ℕ} {from : Progress} {way₀ : Way} (begun : way₀ ≡ wayFrom from) where
+  pub begins : {free : ℕ} → ReadyOn t m₀ part free from → ReadyOn t m₀ part free (progressOn way₀ (from .written))
+  begins on = rw begun (record { ready = on .ready; kept = record { inside = on .kept .inside; within = on .kept .within; few-gains = on .kept .few-gains }; few = on .few; short = on .short })
 
-module _ {t part m₀ : List ℕ} {room : ℕ} {from : Progress} (on : ReadyOn t m₀ part room from) where
-  -- Every way of the part is ready whose place has gone on with the bytes.
-  way-ready : (m : List ℕ) (way : Way) → length m ≡ length m₀ → way .state .0 < stateCountIn t → way .taken ≤ length part
-      → way .place .0 + from .taken ≡ from .place .0 + way .taken → way .gains ≤ 128 * way .taken → GlideReady t m part way
-  way-ready m way long inside within early gains = record {
+  pub took-from : {free : ℕ} {room₀ m room : List ℕ} {to end : Progress} → Took t part free m₀ room₀ (progressOn way₀ (from .written)) m room end → to ≡ end
+      → Took t part free m₀ room₀ from m room to
+  took-from {free} {room₀} {m} {room} {to} {end} took is =
+      let here : Took t part free m₀ room₀ (progressOn (wayFrom from) (from .written)) m room end = rw begun at took in
+      rw is (record { all = here .all; kept = record { kept = here .kept .kept; few = here .kept .few; early = here .kept .early } })
+
+pub turning-start : {t part m₀ room₀ : List ℕ} {phrases : ℕ} {way₀ : Way} {written₀ : ℕ} → ReadyOn t m₀ part (length room₀ / 2) (progressOn way₀ written₀)
+    → phrases ≡ phraseCountIn t → Turning t part m₀ room₀ phrases (length room₀ / 2) way₀ written₀ m₀ room₀ way₀ written₀
+turning-start on counted = record {
+  counted = counted;
+  spare = refl;
+  passed = record { rest = refl; kept = record { kept = on .kept; few = on .few; early = omega arith } };
+  long = refl;
+  roomy = refl;
+}
+
+module _ {t part m₀ room₀ m room : List ℕ} {phrases free : ℕ} {way₀ way : Way} {written₀ written : ℕ} (on : ReadyOn t m₀ part (length room₀ / 2) (progressOn way₀ written₀))
+    (turning : Turning t part m₀ room₀ phrases free way₀ written₀ m room way written) where
+  abbrev run : Way → Run
+  run way = runOf (progressOn way written) m room
+
+  pub turning-few : written ≤ free
+  turning-few = omega (arith, turning .passed .kept .few, turning .spare)
+
+  -- Bytes can be glided over.
+  pub turning-ready : GlideReady t m part way
+  turning-ready = record {
     tables = on .ready .tables;
-    memory = omega (arith, on .ready .memory);
+    memory = omega (arith, on .ready .memory, turning .long);
     few-states = on .ready .states;
     some-dense = on .ready .some-dense;
     few-dense = on .ready .few-dense;
-    inside = inside;
-    within = within;
+    inside = turning .passed .kept .kept .inside;
+    within = turning .passed .kept .kept .within;
     short = on .short;
-    early = omega (arith, on .ready .early, on .kept .within);
-    few-gains = gains;
+    early = omega (arith, on .ready .early, on .kept .within, turning .passed .kept .early, turning .passed .kept .kept .within);
+    few-gains = turning .passed .kept .kept .few-gains;
   }
 
-  pub rest-ready : {begun : Way} → begun ≡ wayFrom from → GlideReady t m₀ part begun
-  rest-ready is = rw is (way-ready m₀ (wayFrom from) refl (on .kept .inside) (on .kept .within) (omega arith) (on .kept .few-gains))
-
-module _ {t part m₀ room₀ : List ℕ} {from : Progress} (on : ReadyOn t m₀ part (length room₀ / 2) from) where
-  -- Where the room is too small no byte is taken.
-  pub rest-full : {phrases : ℕ} → phrases ≡ phraseCountIn t → freeAfter (length room₀ / 2) (runOf from m₀ room₀) < phrases → Took t part (length room₀ / 2) m₀ room₀ from m₀ room₀ from
-  rest-full counted full = record {
-    all = sym (part-full t (length room₀ / 2) part (drop (from .taken) part) (runOf from m₀ room₀) (omega arith));
-    kept = record { kept = on .kept; few = on .few; early = omega arith };
+  -- There is too little room for another byte.
+  pub turning-full : freeAfter free (run way) < phrases → Took t part (length room₀ / 2) m₀ room₀ (progressOn way₀ written₀) m room (progressOn way written)
+  turning-full full = record {
+    all = sym (part-full t (length room₀ / 2) part (drop (way .taken) part) (run way) (omega (arith, turning .counted, turning .spare))) ∙ turning .passed .rest;
+    kept = turning .passed .kept;
   }
 
-  pub begins : {phrases : ℕ} {begun way₀ : Way} → phrases ≡ phraseCountIn t → phrases ≤ freeAfter (length room₀ / 2) (runOf from m₀ room₀) → begun ≡ wayFrom from
-      → glideOf way₀ ≡ glideIn t m₀ (drop (begun .taken) part) (goneBy begun) → GlideKept t part begun way₀ → Begun t part m₀ room₀ from phrases way₀
-  begins counted enough is glides kept = record { on = on; counted = counted; enough = enough; glides = rw is at glides; kept = rw is at kept }
+  -- There is enough, and bytes were glided over.
+  module _ {next : Way} (enough : phrases ≤ freeAfter free (run way)) (glides : glideOf next ≡ glideIn t m (drop (way .taken) part) (goneBy way))
+      (kept : GlideKept t part way next) where
+    left : settled t (length room₀ / 2) part (run next) (next .event) ≡ toCome t (length room₀ / 2) part (runOf (progressOn way₀ written₀) m₀ room₀)
+    left =
+        rest-part t (length room₀ / 2) part (run way) (turning .passed .kept .kept .within) (omega (arith, turning .counted, turning .spare)) (glideOf next) glides
+        ∙ turning .passed .rest
 
-module _ {t part m₀ room₀ : List ℕ} {from : Progress} {phrases : ℕ} {way₀ : Way} (begun : Begun t part m₀ room₀ from phrases way₀) where
-  pub turning-start : Turning t part m₀ room₀ phrases (length room₀ / 2) way₀ (from .written) m₀ room₀ way₀ (from .written)
-  turning-start = record {
-    counted = begun .counted;
-    roomy = refl;
-    taking = taking-start t (length room₀ / 2) part _ _ (begun .kept .within) (omega (arith, begun .on .few, begun .enough, begun .counted)) (begun .kept .inside)
-        (begun .kept .few-gains);
-  }
+    early : next .place .0 + way₀ .taken ≡ way₀ .place .0 + next .taken
+    early = omega (arith, kept .early, turning .passed .kept .early)
 
-  module _ {m room : List ℕ} {way : Way} {written : ℕ} (turning : Turning t part m₀ room₀ phrases (length room₀ / 2) way₀ (from .written) m room way written) where
-    abbrev run : Run
-    run = runOf (progressOn way written) m room
-
-    early : way .place .0 + from .taken ≡ from .place .0 + way .taken
-    early = omega (arith, turning .taking .early, begun .kept .early)
-
-    taken-by : (m₁ room₁ : List ℕ) (written₁ : ℕ)
-        → runOf (progressOn way written₁) m₁ room₁ ≡ settled t (length room₀ / 2) part (runOf (progressOn way₀ (from .written)) m₀ room₀) (way₀ .event)
-        → written₁ ≤ length room₀ / 2 → {to : Progress} → to ≡ progressOn way written₁ → Took t part (length room₀ / 2) m₀ room₀ from m₁ room₁ to
-    taken-by m₁ room₁ written₁ e few so = rw so (record {
-      all = e ∙ rest-part t (length room₀ / 2) part (runOf from m₀ room₀) (begun .on .kept .within) (omega (arith, begun .enough, begun .counted)) (glideOf way₀) (begun .glides);
+    -- Nothing happens any more.
+    pub turning-quiet : next .event ≡ false → Took t part (length room₀ / 2) m₀ room₀ (progressOn way₀ written₀) m room (progressOn next written)
+    turning-quiet quiet = record {
+      all = sym (ap (settled t (length room₀ / 2) part (run next)) quiet) ∙ left;
       kept = record {
-        kept = record { inside = turning .taking .inside; within = turning .taking .within; few-gains = turning .taking .few-gains };
-        few = few;
+        kept = record { inside = kept .inside; within = kept .within; few-gains = kept .few-gains };
+        few = turning .passed .kept .few;
         early = early;
       };
-    })
+    }
 
-    -- Nothing is left to be done.
-    pub turning-end : way .event ≡ false → {to : Progress} → to ≡ progressOn way written → Took t part (length room₀ / 2) m₀ room₀ from m room to
-    turning-end quiet =
-        taken-by m room written (taking-end t (length room₀ / 2) part _ _ run (way .event) (turning .taking) quiet) (omega (arith, turning .taking .few))
-
-    -- What happens at the place of the way can be done.
+    -- What happens at the place can be done, and is done.
     pub turning-happens : (Whole t) × (WholeRunning m) × (phraseCountIn t ≤ roomForPhrases) × (2 * (written + phraseCountIn t) ≤ length room)
-        × (way .state .0 < roomForStates) × (InLetter (way .place .0))
+        × (next .state .0 < roomForStates) × (InLetter (next .place .0))
     turning-happens = (
-      begun .on .ready .tables,
-      omega (arith, begun .on .ready .memory, turning .taking .long),
-      begun .on .ready .phrases,
-      omega (arith, turning .taking .few, turning .taking .roomy),
-      omega (arith, turning .taking .inside, begun .on .ready .states),
-      omega (arith, early, turning .taking .within, begun .on .ready .early, begun .on .kept .within),
+      on .ready .tables,
+      omega (arith, on .ready .memory, turning .long),
+      on .ready .phrases,
+      omega (arith, turning-few, turning .counted, turning .spare, turning .roomy),
+      omega (arith, kept .inside, on .ready .states),
+      omega (arith, early, kept .within, on .ready .early, on .kept .within),
     )
 
-    pub turning-less : way .event ≡ true → {next : Way} → GlideKept t part way next
-        → left (length part) (next .taken) (next .event) < left (length part) (way .taken) (way .event)
-    turning-less event {next} kept = rw event (left-less (length part) (way .taken) (next .taken) (next .event) (turning .taking .within) (kept .within) (kept .more))
+    pub turning-next : next .event ≡ true → {m₁ room₁ : List ℕ} {written₁ : ℕ}
+        → hereWith written₁ room₁ m₁ ≡ happened t (next .state .0) (next .place .0) (hereWith written room m) → length m₁ ≡ length m → length room₁ ≡ length room
+        → Turning t part m₀ room₀ phrases free way₀ written₀ m₁ room₁ next written₁
+    turning-next event {m₁} {room₁} {written₁} what long roomy = record {
+      counted = turning .counted;
+      spare = turning .spare;
+      passed = record {
+        rest = ap (λ (h : Here). partTaken t (length room₀ / 2) (drop (next .taken) part) (wentTo (goneOf (run next)) h)) what
+            ∙ sym (ap (settled t (length room₀ / 2) part (run next)) event) ∙ left;
+        kept = record {
+          kept = record { inside = kept .inside; within = kept .within; few-gains = kept .few-gains };
+          few = omega (arith, ap (λ (h : Here). h .reports .written) what, happened-few t (next .state .0) (next .place .0) (hereWith written room m), turning-few, turning .counted, turning .spare);
+          early = early;
+        };
+      };
+      long = long ∙ turning .long;
+      roomy = roomy ∙ turning .roomy;
+    }
 
-    -- It was done.
-    module _ (event : way .event ≡ true) {m₁ room₁ : List ℕ} {written₁ : ℕ}
-        (what : hereWith written₁ room₁ m₁ ≡ happened t (way .state .0) (way .place .0) (hereWith written room m)) where
-      pub turning-few : written₁ ≤ length room₀ / 2
-      turning-few = few-after t (length room₀ / 2) part _ _ run (way .event) (turning .taking) event (hereWith written₁ room₁ m₁) what
-
-      pub turning-full : freeAfter (length room₀ / 2) (runOf (progressOn way written₁) m₁ room₁) < phrases → {to : Progress} → to ≡ progressOn way written₁ → Took t part (length room₀ / 2) m₀ room₀ from m₁ room₁ to
-      turning-full full =
-          taken-by m₁ room₁ written₁
-          (taking-full t (length room₀ / 2) part _ _ run (way .event) (turning .taking) event (hereWith written₁ room₁ m₁) what (omega (arith, begun .counted)))
-          turning-few
-
-      pub turning-ready : length m₁ ≡ length m → GlideReady t m₁ part way
-      turning-ready long =
-          way-ready (begun .on) m₁ way (long ∙ turning .taking .long) (turning .taking .inside) (turning .taking .within) early (turning .taking .few-gains)
-
-      pub turning-next : phrases ≤ freeAfter (length room₀ / 2) (runOf (progressOn way written₁) m₁ room₁) → {next : Way} → glideOf next ≡ glideIn t m₁ (drop (way .taken) part) (goneBy way)
-          → GlideKept t part way next → Turning t part m₀ room₀ phrases (length room₀ / 2) way₀ (from .written) m₁ room₁ next written₁
-      turning-next free {next} glides kept = record {
-        counted = begun .counted;
-        roomy = refl;
-        taking = taking-next t (length room₀ / 2) part _ _ run (way .event) (turning .taking) event (hereWith written₁ room₁ m₁) what (omega (arith, begun .counted))
-            (glideOf next) glides (kept .within) (kept .inside) (kept .early) (kept .few-gains);
-      }
+    pub turning-less : next .event ≡ true → length part - next .taken < length part - way .taken
+    turning-less event = omega (arith, kept .more event, kept .within)
 
 -- States that were right from one way on are right from the next on.
 pub foreseen-next : {t part states : List ℕ} {first k : ℕ} (way next : Way) → Foreseen t part (way .taken) (way .state .0) states first k → way .taken ≤ next .taken

@@ -9,7 +9,7 @@ use lib.ListN.{length, take}
 use lib.Seq.{length-take-le, getD-take}
 use Rattle.gliding.specs.Foreseen.{afterFrom}
 use Rattle.gliding.proofs.Foreseen.{after-add, after-same, looked-quarter}
-use Rattle.feeding.specs.Taken.{runOf, toCome}
+use Rattle.feeding.specs.Taken.{runOf}
 use Rattle.feeding.specs.Ready.{ReadyOn, Took, Passed, QuarterReady, QuartersReady, QuarterFits, BlocksReady, BlockReady}
 use Rattle.feeding.specs.declared.Progress.{Progress}
 use Rattle.feeding.proofs.Upto.{upto-on, upto-state, kept-start, ready-upto, ready-on, kept-on}

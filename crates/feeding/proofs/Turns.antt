@@ -4,18 +4,17 @@
 use mathlib.Core.Path.{_≡_, refl, sym, ap, ap₂, _∙_}
 use mathlib.Core.Bool.{Bool, true, false, cond}
 use mathlib.Core.List.{List, [], _∷_}
-use Prim.Native.Nat.{ℕ, zero, suc, _+_, _-_, _*_, _≤_, _<_}
+use Prim.Native.Nat.{ℕ, zero, suc, _+_, _-_, _≤_, _<_}
 use native.Mathlib.Numerals.{add-one}
 use native.Mathlib.Omega.{arith}
 use lib.ListN.{length, getD, drop}
 use lib.Seq.{drop-cons, drop-length}
 use borrow.Author.Tests.{lt-ltb, le-ltb}
-use Rattle.tables.specs.Reads.{stateCountIn, phraseCountIn}
+use Rattle.tables.specs.Reads.{phraseCountIn}
 use Rattle.gliding.specs.Glide.{Gone, further, Glide, oneOn, glideIn}
 use Rattle.gliding.proofs.Quiet.{quiet-nothing}
 use Rattle.gliding.proofs.Turns.{goes-quiet, on-goes, glide-stops, glide-on}
 use Rattle.window.specs.Happened.{Here, happened}
-use Rattle.window.proofs.Happened.{happened-long, happened-room, happened-few}
 use Rattle.feeding.specs.Taken.{Run, byteTaken, freeAfter, partTaken, toCome}
 
 -- The way of a run, and the run that went so far.
@@ -130,73 +129,3 @@ pub rest-part : (t : List ℕ) (room : ℕ) (part : List ℕ) (run : Run) → ru
     → (to : Glide) → to ≡ glideIn t (run .here .memory) (drop (run .taken) part) (goneOf run) → glided t room part to (run .here) ≡ toCome t room part run
 rest-part t room part run within free to is =
     ap (λ (g : Glide). glided t room part g (run .here)) is ∙ sym (glide-part t room part (length part - run .taken) run (omega arith) free)
-
--- ── The loop ──
-
--- What stays true while bytes are taken: of a part, from one run on, towards the run that all of it comes to. There is room for what may happen
--- at the place of the run.
-pub record Taking (t : List ℕ) (room : ℕ) (part : List ℕ) (first whole run : Run) (event : Bool) : Type 0 where
-  pub within : run .taken ≤ length part
-  pub few : run .here .reports .written + phraseCountIn t ≤ room
-  pub inside : run .state < stateCountIn t
-  pub early : run .place + first .taken ≡ first .place + run .taken
-  pub few-gains : run .gains ≤ 128 * run .taken
-  pub long : length (run .here .memory) ≡ length (first .here .memory)
-  pub roomy : length (run .here .reports .room) ≡ length (first .here .reports .room)
-  pub rest : settled t room part run event ≡ whole
-
-module _ (t : List ℕ) (room : ℕ) (part : List ℕ) where
-  pub taking-start : (run : Run) (event : Bool) → run .taken ≤ length part → run .here .reports .written + phraseCountIn t ≤ room → run .state < stateCountIn t
-      → run .gains ≤ 128 * run .taken → Taking t room part run (settled t room part run event) run event
-  taking-start run event within few inside gains = record {
-    within = within;
-    few = few;
-    inside = inside;
-    early = omega arith;
-    few-gains = gains;
-    long = refl;
-    roomy = refl;
-    rest = refl;
-  }
-
-  module _ (first whole run : Run) (event : Bool) (taking : Taking t room part first whole run event) where
-    pub taking-end : event ≡ false → run ≡ whole
-    taking-end e = sym (ap (settled t room part run) e) ∙ taking .rest
-
-    -- What happens at the place is done, and the rest follows.
-    module _ (is : event ≡ true) (here : Here) (what : here ≡ happened t (run .state) (run .place) (run .here)) where
-      abbrev after : Run
-      after = wentTo (goneOf run) here
-
-      onward : partTaken t room (drop (run .taken) part) after ≡ whole
-      onward = ap (λ (h : Here). partTaken t room (drop (run .taken) part) (wentTo (goneOf run) h)) what ∙ sym (ap (settled t room part run) is) ∙ taking .rest
-
-      pub few-after : after .here .reports .written ≤ room
-      few-after = omega (arith, ap (λ (h : Here). h .reports .written) what, happened-few t (run .state) (run .place) (run .here), taking .few)
-
-      pub taking-full : freeAfter room after < phraseCountIn t → after ≡ whole
-      taking-full full = sym (part-full t room part (drop (run .taken) part) after full) ∙ onward
-
-      pub taking-next : phraseCountIn t ≤ freeAfter room after → (to : Glide) → to ≡ glideIn t (here .memory) (drop (run .taken) part) (goneOf run)
-          → to .gone .taken ≤ length part → to .gone .state < stateCountIn t → to .gone .place + run .taken ≡ run .place + to .gone .taken
-          → to .gone .gains ≤ 128 * to .gone .taken → Taking t room part first whole (wentTo (to .gone) here) (to .event)
-      taking-next free to glides within inside early gains = record {
-        within = within;
-        few = omega (arith, few-after);
-        inside = inside;
-        early = omega (arith, taking .early);
-        few-gains = gains;
-        long = ap (λ (h : Here). length (h .memory)) what ∙ happened-long t (run .state) (run .place) (run .here) ∙ taking .long;
-        roomy = ap (λ (h : Here). length (h .reports .room)) what ∙ happened-room t (run .state) (run .place) (run .here) ∙ taking .roomy;
-        rest = ap (λ (g : Glide). glided t room part g here) glides
-            ∙ sym (glide-part t room part (length part - run .taken) after (omega (arith, taking .within)) free) ∙ onward;
-      }
-
--- How much is left to do: no byte is taken twice, and without an event nothing is left.
-unfoldable pub left : ℕ → ℕ → Bool → ℕ
-left offered taken event = cond event (suc (offered - taken)) 0
-
-pub left-less : (offered before after : ℕ) (event : Bool) → before ≤ offered → after ≤ offered → (event ≡ true → before < after) → left offered after event < left offered before true
-unfolding left
-left-less offered before after true within inside more = omega (arith, more refl)
-left-less offered before after false within inside more = omega arith

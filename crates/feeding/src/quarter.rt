@@ -21,20 +21,17 @@ pub fn take_quarter(
 {
     let phrases = tables::phrase_count(t);
     let free = room.len() / 2;
-    if free - from.written < phrases {
-        return from;
-    }
     let first = from.taken;
     let mut written = from.written;
-    let mut way = skimming::skim(t, m, part, states, first, k, way_from(from));
-    while way.event {
+    let mut way = way_from(from);
+    while phrases <= free - written {
+        way = skimming::skim(t, m, part, states, first, k, way);
+        if !way.event {
+            return progress_on(way, written);
+        }
         let reached = way.state;
         let there = way.place;
         written = window::happen(t, m, room, written, reached, there);
-        if free - written < phrases {
-            return progress_on(way, written);
-        }
-        way = skimming::skim(t, m, part, states, first, k, way);
     }
     progress_on(way, written)
 }

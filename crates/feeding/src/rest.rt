@@ -13,19 +13,16 @@ pub fn take_rest(t: &[u8], m: &mut [u8], part: &[u8], room: &mut [u32], from: Pr
 {
     let phrases = tables::phrase_count(t);
     let free = room.len() / 2;
-    if free - from.written < phrases {
-        return from;
-    }
     let mut written = from.written;
-    let mut way = gliding::glide(t, m, part, way_from(from));
-    while way.event {
+    let mut way = way_from(from);
+    while phrases <= free - written {
+        way = gliding::glide(t, m, part, way);
+        if !way.event {
+            return progress_on(way, written);
+        }
         let reached = way.state;
         let there = way.place;
         written = window::happen(t, m, room, written, reached, there);
-        if free - written < phrases {
-            return progress_on(way, written);
-        }
-        way = gliding::glide(t, m, part, way);
     }
     progress_on(way, written)
 }

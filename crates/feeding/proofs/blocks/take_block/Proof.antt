@@ -30,16 +30,25 @@ slice-aggregate-take-quarters : tie.Need-slice-aggregate-take-quarters
 slice-aggregate-take-quarters c = search needs
 
 take-quarters-requires : tie.Need-take-quarters-requires
-take-quarters-requires c κs = search needs
+take-quarters-requires c κs =
+    let pre = c .before .before .before .before .before .before .before .before .before .before .before .pre in
+    let on = pre .blocks .on in
+    let looked = c .before .before .before .before .look-ahead in
+    record {
+      on = on;
+      within = omega (arith, pre .fits .within, on .kept .within);
+      looked = looked .ensures .0;
+      room-for = omega (arith, pre .fits .short, looked .ensures .1);
+    }
 
 same-length : tie.Need-same-length
-same-length c = search needs
+same-length c = omega arith
 
 same-length-2 : tie.Need-same-length-2
-same-length-2 c = search needs
+same-length-2 c = omega arith
 
 returns : tie.Need-returns
-returns c = search needs
+returns c = c .before .before .before .before .take-quarters .ensures
 
 pub take-block-spec : {M : Type 1} → statement M
 take-block-spec =

@@ -3,7 +3,6 @@
 use Prim.Native.Nat.{_-_}
 use native.Mathlib.Omega.{arith}
 use lib.ListN.{length}
-use borrow.Author.Needs.{needs}
 use Rattle.feeding.proofs.Quarters.{Blocks, blocks-start, block-ready, block-passed, blocks-next}
 use Rattle.feeding.proofs.blocks.take_blocks.Statement.{statement}
 use Rattle.feeding.proofs.blocks.take_blocks.Tie as tie

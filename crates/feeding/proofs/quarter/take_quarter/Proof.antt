@@ -1,13 +1,13 @@
--- Each turn does what happens at the last byte that was taken and skims on, and the states ahead stay right. The measure is how
--- much is left to do.
+-- Each turn skims over the bytes at which nothing happens and does what happens at the next, and the states ahead stay right. The
+-- measure is how many bytes remain.
 -- Assumes nothing.
-use Prim.Native.Nat.{_≤_}
+use Prim.Native.Nat.{_-_, _≤_}
 use native.Mathlib.Omega.{arith}
 use lib.ListN.{length}
 use borrow.Author.Needs.{needs}
+use borrow.Author.Tests.{not-true, not-false}
 use Rattle.gliding.specs.Foreseen.{Foreseen}
-use Rattle.feeding.proofs.Turns.{left}
-use Rattle.feeding.proofs.Loop.{Turning, rest-full, rest-ready, begins, turning-start, turning-end, turning-happens, turning-less, turning-few, turning-full, turning-ready, turning-next, foreseen-next, foreseen-first}
+use Rattle.feeding.proofs.Loop.{Turning, begins, took-from, turning-start, turning-few, turning-ready, turning-full, turning-quiet, turning-happens, turning-next, turning-less, foreseen-next, foreseen-first}
 use Rattle.feeding.proofs.quarter.take_quarter.Statement.{statement}
 use Rattle.feeding.proofs.quarter.take_quarter.Tie as tie
 
@@ -16,59 +16,40 @@ Inv-loop t m₀ part room₀ states k phrases free first written₀ way₀ m roo
     (Turning t part m₀ room₀ phrases free way₀ written₀ m room way written) × (first ≤ way .taken) × (Foreseen t part (way .taken) (way .state .0) states first k)
 
 abbrev μ-loop : tie.MeasureT-loop
-μ-loop t m₀ part room₀ states k phrases free first written₀ way₀ m room written way = left (length part) (way .taken) (way .event)
+μ-loop t m₀ part room₀ states k phrases free first written₀ way₀ m room written way = length part - way .taken
 
 phrase-count-requires : tie.Need-phrase-count-requires Inv-loop μ-loop
 phrase-count-requires c κs = omega arith
 
-sub-if1 : tie.Need-sub-if1 Inv-loop μ-loop
-sub-if1 c = omega arith
-
-returns : tie.Need-returns Inv-loop μ-loop
-returns c =
-    let entry = c .before .before .before .before .before .before .before .before in
-    rest-full (entry .pre .on) (c .before .before .phrase-count .ensures .0) (c .if1 .taken)
-
 way-from-requires : tie.Need-way-from-requires Inv-loop μ-loop
 way-from-requires c κs = search needs
 
+loop-holds : tie.Need-loop-holds Inv-loop μ-loop
+loop-holds c =
+    let entry = c .before .before .before .before .before .before .before in
+    let foreseen = foreseen-first (entry .args .from) (c .way-from .ensures) (entry .pre .foreseen) in
+    (turning-start (begins (c .way-from .ensures) (entry .pre .on)) (c .before .phrase-count .ensures .0), foreseen .0, foreseen .1)
+
+sub-loop : tie.Need-sub-loop Inv-loop μ-loop
+sub-loop c =
+    let at = c in
+    let entry = at .before .before .before .before .before .before .before .before in
+    let on = begins (at .before .way-from .ensures) (entry .pre .on) in
+    let few = turning-few on (at .loop .inv .0) in
+    omega arith
+
 skim-requires : tie.Need-skim-requires Inv-loop μ-loop
 skim-requires c κs =
-    let entry = c .before .before .before .before .before .before .before .before .before .before in
-    let foreseen = foreseen-first (entry .args .from) (c .way-from .ensures) (entry .pre .foreseen) in
+    let at = c .before .before in
+    let entry = at .before .before .before .before .before .before .before .before in
+    let on = begins (at .before .way-from .ensures) (entry .pre .on) in
     record {
-      glide = rest-ready (entry .pre .on) (c .way-from .ensures);
-      foreseen = foreseen .1;
-      begun = foreseen .0;
+      glide = turning-ready on (at .loop .inv .0);
+      foreseen = at .loop .inv .2;
+      begun = at .loop .inv .1;
       one-of-four = entry .pre .of-four;
       room = entry .pre .room-for;
     }
-
-loop-holds : tie.Need-loop-holds Inv-loop μ-loop
-loop-holds c =
-    let entry = c .before .before .before .before .before .before .before .before .before .before .before in
-    let begun = begins (entry .pre .on) (c .before .before .before .before .before .phrase-count .ensures .0) (c .before .before .before .if1 .left) (c .before .way-from .ensures) (c .skim .ensures .0) (c .skim .ensures .1) in
-    let kept = c .skim .ensures .1 in
-    let foreseen = foreseen-first (entry .args .from) (c .before .way-from .ensures) (entry .pre .foreseen) in (
-      turning-start begun,
-      omega (arith, foreseen .0, kept .onward),
-      foreseen-next (c .before .way-from .result) (c .skim .result) (foreseen .1) (kept .onward) (c .skim .ensures .2),
-    )
-
-happen-requires : tie.Need-happen-requires Inv-loop μ-loop
-happen-requires c κs =
-    let at = c .before .before .before .before .before in
-    let entry = at .before .before .before .before .before .before .before .before .before .before .before .before in
-    let begun = begins (entry .pre .on) (at .before .before .before .before .before .before .phrase-count .ensures .0) (at .before .before .before .before .if1 .left) (at .before .before .way-from .ensures) (at .before .skim .ensures .0) (at .before .skim .ensures .1) in
-    turning-happens begun (at .loop .inv .0)
-
-sub-if2 : tie.Need-sub-if2 Inv-loop μ-loop
-sub-if2 c =
-    let at = c .before .before .before .before .before .before .before .before .before .before in
-    let entry = at .before .before .before .before .before .before .before .before .before .before .before .before in
-    let begun = begins (entry .pre .on) (at .before .before .before .before .before .before .phrase-count .ensures .0) (at .before .before .before .before .if1 .left) (at .before .before .way-from .ensures) (at .before .skim .ensures .0) (at .before .skim .ensures .1) in
-    let few = turning-few begun (at .loop .inv .0) (c .before .before .before .before .before .before .before .before .before .loop-test .taken) (c .before .before .before .before .happen .ensures) in
-    omega arith
 
 progress-on-requires : tie.Need-progress-on-requires Inv-loop μ-loop
 progress-on-requires c κs = search needs
@@ -79,42 +60,36 @@ same-length c = omega arith
 same-length-2 : tie.Need-same-length-2 Inv-loop μ-loop
 same-length-2 c = omega arith
 
-returns-2 : tie.Need-returns-2 Inv-loop μ-loop
-returns-2 c =
-    let at = c .before .before .before .before .before .before .before .before .before .before .before .before in
-    let entry = at .before .before .before .before .before .before .before .before .before .before .before .before in
-    let begun = begins (entry .pre .on) (at .before .before .before .before .before .before .phrase-count .ensures .0) (at .before .before .before .before .if1 .left) (at .before .before .way-from .ensures) (at .before .skim .ensures .0) (at .before .skim .ensures .1) in
-    turning-full begun (at .loop .inv .0) (c .before .before .before .before .before .before .before .before .before .before .before .loop-test .taken) (c .before .before .before .before .before .before .happen .ensures) (omega (arith, c .before .if2 .taken)) (c .progress-on .ensures)
+returns : tie.Need-returns Inv-loop μ-loop
+returns c =
+    let at = c .before .before .before .before .before .before in
+    let entry = at .before .before .before .before .before .before .before .before in
+    let on = begins (at .before .way-from .ensures) (entry .pre .on) in
+    took-from (at .before .way-from .ensures) (turning-quiet on (at .loop .inv .0) (omega (arith, c .before .before .before .before .before .loop-test .taken)) (c .before .before .before .skim .ensures .0) (c .before .before .before .skim .ensures .1) (not-true (c .before .before .before .skim .result .event) (c .before .if1 .taken))) (c .progress-on .ensures)
 
-skim-requires-2 : tie.Need-skim-requires-2 Inv-loop μ-loop
-skim-requires-2 c κs =
-    let at = c .before .before .before .before .before .before .before .before .before .before .before .before in
-    let entry = at .before .before .before .before .before .before .before .before .before .before .before .before in
-    let begun = begins (entry .pre .on) (at .before .before .before .before .before .before .phrase-count .ensures .0) (at .before .before .before .before .if1 .left) (at .before .before .way-from .ensures) (at .before .skim .ensures .0) (at .before .skim .ensures .1) in
-    record {
-      glide = turning-ready begun (at .loop .inv .0) (c .before .before .before .before .before .before .before .before .before .before .before .loop-test .taken) (c .before .before .before .before .before .before .happen .ensures) (omega arith);
-      foreseen = at .loop .inv .2;
-      begun = at .loop .inv .1;
-      one-of-four = entry .pre .of-four;
-      room = entry .pre .room-for;
-    }
+happen-requires : tie.Need-happen-requires Inv-loop μ-loop
+happen-requires c κs =
+    let at = c .before .before .before .before .before .before .before .before .before in
+    let entry = at .before .before .before .before .before .before .before .before in
+    let on = begins (at .before .way-from .ensures) (entry .pre .on) in
+    turning-happens on (at .loop .inv .0) (omega (arith, c .before .before .before .before .before .before .before .before .loop-test .taken)) (c .before .before .before .before .before .before .skim .ensures .0) (c .before .before .before .before .before .before .skim .ensures .1)
 
 loop-less : tie.Need-loop-less Inv-loop μ-loop
 loop-less c =
-    let at = c .before .before .before .before .before .before .before .before .before .before .before .before .before in
-    let entry = at .before .before .before .before .before .before .before .before .before .before .before .before in
-    let begun = begins (entry .pre .on) (at .before .before .before .before .before .before .phrase-count .ensures .0) (at .before .before .before .before .if1 .left) (at .before .before .way-from .ensures) (at .before .skim .ensures .0) (at .before .skim .ensures .1) in
-    turning-less begun (at .loop .inv .0) (c .before .before .before .before .before .before .before .before .before .before .before .before .loop-test .taken) (c .skim2 .ensures .1)
+    let at = c .before .before .before .before .before .before .before .before .before .before .before .before .before .before in
+    let entry = at .before .before .before .before .before .before .before .before in
+    let on = begins (at .before .way-from .ensures) (entry .pre .on) in
+    turning-less on (at .loop .inv .0) (omega (arith, c .before .before .before .before .before .before .before .before .before .before .before .before .before .loop-test .taken)) (c .before .before .before .before .before .before .before .before .before .before .before .skim .ensures .0) (c .before .before .before .before .before .before .before .before .before .before .before .skim .ensures .1) (not-false (c .before .before .before .before .before .before .before .before .before .before .before .skim .result .event) (c .before .before .before .before .before .before .before .before .before .if1 .left))
 
 loop-again : tie.Need-loop-again Inv-loop μ-loop
 loop-again c =
-    let at = c .before .before .before .before .before .before .before .before .before .before .before .before .before in
-    let entry = at .before .before .before .before .before .before .before .before .before .before .before .before in
-    let begun = begins (entry .pre .on) (at .before .before .before .before .before .before .phrase-count .ensures .0) (at .before .before .before .before .if1 .left) (at .before .before .way-from .ensures) (at .before .skim .ensures .0) (at .before .skim .ensures .1) in
-    let kept = c .skim2 .ensures .1 in (
-      turning-next begun (at .loop .inv .0) (c .before .before .before .before .before .before .before .before .before .before .before .before .loop-test .taken) (c .before .before .before .before .before .before .before .happen .ensures) (omega (arith, c .before .before .if2 .left)) (c .skim2 .ensures .0) (c .skim2 .ensures .1),
-      omega (arith, at .loop .inv .1, kept .onward),
-      foreseen-next (at .loop .way) (c .skim2 .result) (at .loop .inv .2) (kept .onward) (c .skim2 .ensures .2),
+    let at = c .before .before .before .before .before .before .before .before .before .before .before .before .before .before in
+    let entry = at .before .before .before .before .before .before .before .before in
+    let on = begins (at .before .way-from .ensures) (entry .pre .on) in
+    let skim = c .before .before .before .before .before .before .before .before .before .before .before .skim in (
+      turning-next on (at .loop .inv .0) (omega (arith, c .before .before .before .before .before .before .before .before .before .before .before .before .before .loop-test .taken)) (c .before .before .before .before .before .before .before .before .before .before .before .skim .ensures .0) (c .before .before .before .before .before .before .before .before .before .before .before .skim .ensures .1) (not-false (c .before .before .before .before .before .before .before .before .before .before .before .skim .result .event) (c .before .before .before .before .before .before .before .before .before .if1 .left)) (c .before .before .before .before .happen .ensures) (omega arith) (omega arith),
+      omega (arith, at .loop .inv .1, skim .ensures .1 .onward),
+      foreseen-next (at .loop .way) (skim .result) (at .loop .inv .2) (skim .ensures .1 .onward) (skim .ensures .2),
     )
 
 progress-on-requires-2 : tie.Need-progress-on-requires-2 Inv-loop μ-loop
@@ -126,12 +101,12 @@ same-length-3 c = omega arith
 same-length-4 : tie.Need-same-length-4 Inv-loop μ-loop
 same-length-4 c = omega arith
 
-returns-3 : tie.Need-returns-3 Inv-loop μ-loop
-returns-3 c =
+returns-2 : tie.Need-returns-2 Inv-loop μ-loop
+returns-2 c =
     let at = c .before .before in
-    let entry = at .before .before .before .before .before .before .before .before .before .before .before .before in
-    let begun = begins (entry .pre .on) (at .before .before .before .before .before .before .phrase-count .ensures .0) (at .before .before .before .before .if1 .left) (at .before .before .way-from .ensures) (at .before .skim .ensures .0) (at .before .skim .ensures .1) in
-    turning-end begun (at .loop .inv .0) (c .before .loop-test .left) (c .progress-on2 .ensures)
+    let entry = at .before .before .before .before .before .before .before .before in
+    let on = begins (at .before .way-from .ensures) (entry .pre .on) in
+    took-from (at .before .way-from .ensures) (turning-full on (at .loop .inv .0) (omega (arith, c .before .loop-test .left))) (c .progress-on2 .ensures)
 
 pub take-quarter-spec : {M : Type 1} → statement M
 take-quarter-spec =
@@ -140,21 +115,18 @@ take-quarter-spec =
     Inv-loop
     μ-loop
     phrase-count-requires
-    sub-if1
-    returns
     way-from-requires
-    skim-requires
     loop-holds
-    happen-requires
-    sub-if2
+    sub-loop
+    skim-requires
     progress-on-requires
     same-length
     same-length-2
-    returns-2
-    skim-requires-2
+    returns
+    happen-requires
     loop-less
     loop-again
     progress-on-requires-2
     same-length-3
     same-length-4
-    returns-3)
+    returns-2)
