@@ -92,6 +92,13 @@ module _ {t m₀ part room₀ states : List ℕ} {quarter : ℕ} {from : Progres
             roomy = roomy ∙ quarters .roomy;
           }
 
+-- Two quarters more are a half more.
+pub quarters-half : {t part m₀ room₀ m room : List ℕ} {quarter end : ℕ} {from progress : Progress} (half : ℕ)
+    → Quarters t part quarter m₀ room₀ from m room end progress (2 * half + 1 + 1) → Quarters t part quarter m₀ room₀ from m room end progress (2 * (half + 1))
+quarters-half half quarters =
+    let e : 2 * (half + 1) ≡ 2 * half + 1 + 1 = omega arith in
+    rw e quarters
+
 -- ── Blocks one after the other, and then the rest of the part ──
 
 -- What is left is ready.

@@ -8,6 +8,8 @@ use crate::quarter::take_quarter;
 // The quarters of a block.
 const QUARTERS: usize = 4;
 
+const HALVES: usize = 2;
+
 // The bytes of the longest quarter.
 const LONGEST: usize = 1024;
 
@@ -21,7 +23,8 @@ const SHORTEST: usize = 512;
 // written at least so many for the states that were looked up in vain.
 const SPARE: usize = 512;
 
-// The quarters of a block one after the other, the first from where a call has come to, as long as each is taken whole.
+// The quarters of a block one after the other, the first from where a call has come to, as long as each is taken whole. A turn takes two of them: so the taking of
+// a quarter stays a function of its own, with its numbers in registers.
 fn take_quarters(
     t: &[u8],
     m: &mut [u8],
@@ -36,14 +39,20 @@ fn take_quarters(
 {
     let mut end = from.taken;
     let mut progress = from;
-    let mut k = 0;
-    while k < QUARTERS {
+    let mut half = 0;
+    while half < HALVES {
+        let k = 2 * half;
         end += quarter;
         progress = take_quarter(t, m, &part[..end], room, states, k, progress);
         if progress.taken < end {
             return progress;
         }
-        k += 1;
+        end += quarter;
+        progress = take_quarter(t, m, &part[..end], room, states, k + 1, progress);
+        if progress.taken < end {
+            return progress;
+        }
+        half += 1;
     }
     progress
 }
