@@ -1,4 +1,3 @@
-pub mod Cleared
 pub mod Regions
 pub mod Given
 pub mod States

@@ -1,12 +1,14 @@
 -- The exact reading is right: too small memory is refused with 1, and for any other what the format judges is the answer, and the
 -- cleared memory holds what the judgement leads to. Assumes nothing.
 use mathlib.Core.Path.{_≡_, refl, sym, ap, subst, _∙_}
+use mathlib.Core.Logic.{inr}
 use mathlib.Core.List.{List}
 use Prim.Native.Nat.{ℕ, _≤_, _<_}
 use native.Mathlib.Omega.{arith}
 use lib.ListN.{length, getD}
 use borrow.Author.Tests.{lt-ltb, le-ltb}
 use Rattle.lent.specs.Numbers.{Bytes}
+use Rattle.lent.proofs.Zeros.{length-zeros, zeros-there, zeros-apart}
 use Rattle.meaning.specs.Books.{Book}
 use Rattle.format.specs.Refusals as format
 use Rattle.format.specs.Refusals.{numberOf}
@@ -20,7 +22,6 @@ use Rattle.builder.specs.declared.answers.Built.the-variants.{TooSmall}
 use Rattle.builder.specs.Answers.{said, saidBy, saidOf}
 use Rattle.builder.specs.Passes.{Fresh}
 use Rattle.builder.specs.Build.{Outcome, outcome, blankOf, outcomeOf, buildOf, Holds, Judged, BuildMeant, BuiltRight}
-use Rattle.builder.proofs.Cleared.{cleared-zero, cleared-past, length-cleared}
 use Rattle.builder.proofs.Filled.{tables-long, tables-past, tables-laid}
 
 -- ── In memory of the published size ──
@@ -31,15 +32,15 @@ module _ (bytes before : List ℕ) (each : Bytes bytes) (large : tablesSize ≤ 
 
   blank-long : length blank ≡ length before
   unfolding blankOf tablesSize
-  blank-long = length-cleared _ before (omega arith)
+  blank-long = length-zeros before 0 _
 
   blank-zero : (k : ℕ) → k < tablesSize → getD blank k 0 ≡ 0
   unfolding blankOf tablesSize
-  blank-zero k l = cleared-zero _ before k (omega arith)
+  blank-zero k l = zeros-there before 0 _ (omega arith) k (omega arith) (omega arith)
 
   blank-past : (k : ℕ) → tablesSize ≤ k → getD blank k 0 ≡ getD before k 0
   unfolding blankOf tablesSize
-  blank-past k l = cleared-past _ before k (omega arith)
+  blank-past k l = zeros-apart before 0 _ k (inr (omega arith))
 
   -- An accepted book may be filled in.
   pub blank-fresh : (b : Book) → AcceptedAs bytes b → Fresh b bytes blank

@@ -6,6 +6,7 @@ use mathlib.Core.List.{List}
 use Prim.Native.Nat.{ℕ, _≤_, _<_}
 use lib.Dec.{ltb}
 use lib.ListN.{length, getD}
+use Rattle.lent.specs.Zeros.{withZeros}
 use Rattle.format.specs.Judged.{Judgement, accepted, refused, judged, Judges}
 use Rattle.book.specs.Refusals.{refusalFor}
 use Rattle.tables.specs.Regions.{Laid}
@@ -13,7 +14,6 @@ use Rattle.tables.specs.Layout.{tablesSize, tablesLayout}
 use Rattle.builder.specs.declared.answers.Built.{Built}
 use Rattle.builder.specs.declared.answers.Built.the-variants.{Done, TooSmall, Refused}
 use Rattle.builder.specs.Answers.{said, saidBy, saidOf}
-use Rattle.builder.specs.Cleared.{cleared}
 use Rattle.builder.specs.Passes.{tablesFrom}
 
 -- ── As the code does it ──
@@ -28,7 +28,7 @@ outcome answer tables = record { answer = answer; tables = tables }
 
 -- The lent memory, cleared up to the published size.
 unfoldable pub blankOf : List ℕ → List ℕ
-blankOf tables = cleared tablesSize tables
+blankOf tables = withZeros tables 0 tablesSize
 
 -- What a judgement of the book leads to, in cleared memory.
 unfoldable pub outcomeOf : List ℕ → List ℕ → Judgement → Outcome

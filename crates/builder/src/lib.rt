@@ -2,12 +2,10 @@
 ghost use Rattle.builder.specs.Build.{BuiltRight};
 use book::Judged;
 use book::judge;
-use clearing::clear;
 use passes::fill;
 use tables::layout::SIZE;
 
 mod answers;
-mod clearing;
 mod header;
 mod passes;
 
@@ -21,7 +19,7 @@ pub fn build(book: &[u8], tables: &mut [u8]) -> Built
     if tables.len() < SIZE {
         return Built::TooSmall;
     }
-    clear(tables, SIZE);
+    lent::clear(tables, 0, SIZE);
     let judged = judge(book);
     match judged {
         Judged::Accepted { length, phrases: _ } => {

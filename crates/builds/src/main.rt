@@ -4,43 +4,13 @@ mod lines;
 
 use lines::again;
 use lines::line;
+use sheet::EXAMPLE;
 use tables::layout::SIZE;
 
 // ── The books ──
 
 // Room for the longest of them.
 const ROOM: usize = 12288;
-
-// Phrase 7, rights 1: anywhere "not", then 1 to 9 bytes, then "print".
-const EXAMPLE: [u8; 27] = [
-    0x01,
-    0x01,
-    0x02,
-    0x00,
-    0x07,
-    0x01,
-    0x04,
-    0x00,
-    0x00,
-    0x83,
-    0x6E,
-    0x6F,
-    0x74,
-    0x03,
-    0x00,
-    0x01,
-    0x00,
-    0x09,
-    0x85,
-    0x70,
-    0x72,
-    0x69,
-    0x6E,
-    0x74,
-    0x7F,
-    0x00,
-    0x01,
-];
 
 const KEYWORD_BASE: u8 = 0x80;
 

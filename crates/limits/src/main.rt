@@ -2,40 +2,10 @@
 // its offset and, where it is accepted, its phrases.
 use book::Judged;
 use libc::STDOUT_FILENO;
+use sheet::EXAMPLE;
 
 // The longest book that is tried here has 10,245 bytes.
 const ROOM: usize = 12288;
-
-// The book of document 01's example: phrase 7, rights 1, anywhere "not", then 1 to 9 bytes, then "print".
-const EXAMPLE: [u8; 27] = [
-    0x01,
-    0x01,
-    0x02,
-    0x00,
-    0x07,
-    0x01,
-    0x04,
-    0x00,
-    0x00,
-    0x83,
-    0x6E,
-    0x6F,
-    0x74,
-    0x03,
-    0x00,
-    0x01,
-    0x00,
-    0x09,
-    0x85,
-    0x70,
-    0x72,
-    0x69,
-    0x6E,
-    0x74,
-    0x7F,
-    0x00,
-    0x01,
-];
 
 const LONGEST_KEYWORD: u8 = 32;
 

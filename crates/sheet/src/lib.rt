@@ -17,6 +17,37 @@ pub const OPEN: u8 = 0x04;
 
 pub const END: u8 = 0x7F;
 
+// The book of document 01's example: phrase 7, rights 1, anywhere "not", then 1 to 9 bytes, then "print".
+pub const EXAMPLE: [u8; 27] = [
+    0x01,
+    0x01,
+    0x02,
+    0x00,
+    0x07,
+    0x01,
+    0x04,
+    0x00,
+    0x00,
+    0x83,
+    0x6E,
+    0x6F,
+    0x74,
+    0x03,
+    0x00,
+    0x01,
+    0x00,
+    0x09,
+    0x85,
+    0x70,
+    0x72,
+    0x69,
+    0x6E,
+    0x74,
+    0x7F,
+    0x00,
+    0x01,
+];
+
 // One byte.
 pub fn byte(book: &mut [u8], at: usize, value: u8) -> usize
     ensures { λ r. ⌜ record { bytes = now (book .exit); next = r } ≡ withByte (record { bytes = now (book .entry); next = at }) value ⌝ }

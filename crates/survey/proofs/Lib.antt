@@ -9,4 +9,3 @@ pub mod Phrases
 pub mod Right
 pub mod Onward
 pub mod Loop
-pub mod Keywords

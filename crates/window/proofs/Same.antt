@@ -4,27 +4,24 @@
 use mathlib.Core.Path.{_≡_, refl, sym, ap, _∙_}
 use mathlib.Core.Logic.{_⊎_, inl, inr}
 use mathlib.Core.Bool.{Bool, false, So, not, cond, _&&_, false≢true}
-use mathlib.Core.List.{List, [], _∷_, _++_, List·Memᴰ}
+use mathlib.Core.List.{List, List·Memᴰ}
 use Prim.Native.Nat.{ℕ, zero, suc, _+_, _%_, _≤_, _<_}
 use native.Mathlib.Omega.{arith}
 use lib.Dec.{leb, eqb}
-use lib.ListN.{length}
 use borrow.Author.Tests.{eq-eqb, eqb-true, not-true}
 use Rattle.lent.proofs.Cases.{lt-or-le}
 use Rattle.meaning.specs.Books.{Book}
-use Rattle.meaning.specs.Automaton.{isState, after, some-of}
+use Rattle.meaning.specs.Automaton.{some-of}
 use Rattle.meaning.specs.Windows.{delay, opensAt}
 use Rattle.meaning.proofs.Truth.{both, and-left, and-right, same-truth}
 use Rattle.meaning.proofs.States.{some-of-iff}
 use Rattle.format.specs.Limits.{Within}
 use Rattle.tables.specs.Regions.{Laid}
 use Rattle.tables.specs.Spots.{spotAt, spotCount, Placed}
-use Rattle.tables.specs.Endings.{endings}
 use Rattle.tables.specs.Layout.{roomForPieces, tablesLayout}
 use Rattle.tables.specs.Reads.{delayIn, spanIn, rankIn, lastIn}
 use Rattle.tables.proofs.Spots.{placed}
 use Rattle.tables.proofs.Fits.{fits}
-use Rattle.tables.proofs.Endings.{endings-iff}
 use Rattle.running.specs.Waiting.{slots, closesAt, slotFor, someBelow}
 use Rattle.running.specs.Reads.{closingPlaceIn, waitsIn}
 use Rattle.running.specs.Kept.{closingAfter, endsHere, begins, marked}
@@ -36,33 +33,25 @@ use Rattle.window.specs.Opening.{closesAfter}
 use Rattle.window.specs.Midway.{setsWaiting, setsMark}
 use Rattle.window.proofs.Tables.{delay-spot, closes-spot, last-spot, rank-spot}
 
+-- Piece p is one of these.
+abbrev pub among : List ℕ → ℕ → Bool
+among pieces p = some-of (eqb p) pieces
+
+-- The closing places once the slot of a place has been opened.
+abbrev pub opened : List ℕ → List ℕ → ℕ → ℕ → ℕ
+opened t m place p = cond (waitsIn m (place % slots) p) (closesAfter (spanIn t p) place) (closingPlaceIn m p)
+
+-- Said of any pieces of the book, at any place.
 module _ (book : Book) (limits : Within book) (t : List ℕ) (laid : Laid (tablesLayout book) t)
-    (x : List ℕ) (a : ℕ) (m : List ℕ) (windows : Windows book x m) where
-  abbrev now : List ℕ
-  now = x ++ a ∷ []
-
-  abbrev here : ℕ
-  here = suc (length x)
-
-  abbrev reached : List ℕ
-  reached = after (isState book) now
-
-  -- The pieces whose keyword ends here.
-  abbrev pieces : List ℕ
-  pieces = endings book reached
-
+    (x m : List ℕ) (windows : Windows book x m) (here : ℕ) (pieces : List ℕ) (inside : (p : ℕ) → List·Memᴰ p pieces → p < spotCount book) where
   abbrev ending : ℕ → Bool
-  ending p = some-of (eqb p) pieces
+  ending = among pieces
 
-  -- The closing places once the slot has been opened.
   abbrev closing : ℕ → ℕ
-  closing p = cond (waitsIn m (here % slots) p) (closesAfter (spanIn t p) here) (closingPlaceIn m p)
+  closing = opened t m here
 
   order : Placed book
   order = placed book limits
-
-  inside : (p : ℕ) → List·Memᴰ p pieces → p < spotCount book
-  inside p h = endings-iff book reached p .0 h .0
 
   pub same-closing : (p : ℕ) → p < roomForPieces → closing p ≡ closingAfter book here (closingPlaceIn m) (waitsIn m) p
   unfolding closingAfter

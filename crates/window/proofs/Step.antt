@@ -2,16 +2,15 @@
 -- what one byte of the book's own does to them.
 -- Assumes nothing.
 use mathlib.Core.Path.{_≡_, refl, ap, ap₂, _∙_}
-use mathlib.Core.Bool.{Bool, cond, _||_}
+use mathlib.Core.Bool.{Bool, _||_}
 use mathlib.Core.List.{List, [], _∷_, _++_, List·Memᴰ, List·Memᴰ·head, List·Memᴰ·tail}
-use Prim.Native.Nat.{ℕ, suc, _%_, _≤_, _<_}
+use Prim.Native.Nat.{ℕ, suc, _≤_, _<_}
 use native.Mathlib.Omega.{arith}
-use lib.Dec.{eqb}
 use lib.ListN.{length, getD}
 use Rattle.lent.specs.Numbers.{Bytes}
 use Rattle.meaning.specs.Books.{Book}
 use Rattle.meaning.specs.Matching.{suffix, matches}
-use Rattle.meaning.specs.Automaton.{isState, after, some-of}
+use Rattle.meaning.specs.Automaton.{isState, after}
 use Rattle.meaning.proofs.States.{isState-closed}
 use Rattle.meaning.proofs.After.{after-state}
 use Rattle.format.specs.Limits.{All, Within}
@@ -20,7 +19,7 @@ use Rattle.tables.specs.Regions.{Laid}
 use Rattle.tables.specs.Spots.{spotAt, spotCount, noPhrase}
 use Rattle.tables.specs.Endings.{endings}
 use Rattle.tables.specs.Layout.{roomForPieces, roomForPhrases, upTo, tablesLayout}
-use Rattle.tables.specs.Reads.{spanIn, rankIn}
+use Rattle.tables.specs.Reads.{rankIn}
 use Rattle.tables.proofs.Spots.{placed}
 use Rattle.tables.proofs.Fits.{fits}
 use Rattle.tables.proofs.Endings.{endings-iff}
@@ -33,7 +32,7 @@ use Rattle.running.proofs.Kept.{kept-step}
 use Rattle.running.proofs.Marks.{marked-matches}
 use Rattle.marks.specs.Marked.{noMarks, isMarked}
 use Rattle.marks.proofs.Marked.{none-marked}
-use Rattle.window.specs.Opening.{closesAfter, slotOpened}
+use Rattle.window.specs.Opening.{slotOpened}
 use Rattle.window.specs.Ending.{Ended, piecesEnded}
 use Rattle.window.specs.Happened.{endedAt}
 use Rattle.window.proofs.Opening.{length-slot}
@@ -41,7 +40,7 @@ use Rattle.window.specs.Places.{Elsewhere}
 use Rattle.window.specs.Midway.{Midway}
 use Rattle.window.proofs.Slots.{bytes-slot, byte-slot, flags-slot, waits-slot, closing-slot}
 use Rattle.window.proofs.Tables.{rank-spot, pieces-state, ends-suffix}
-use Rattle.window.proofs.Same.{same-closing, same-waiting, same-marks}
+use Rattle.window.proofs.Same.{among, opened, same-closing, same-waiting, same-marks}
 use Rattle.window.proofs.EndingRead.{all-midway, all-waits, all-marked}
 
 all-of : (P : ℕ → Type 0) (l : List ℕ) → ((p : ℕ) → List·Memᴰ p l → P p) → All P l
@@ -65,11 +64,10 @@ module _ (book : Book) (limits : Within book) (t : List ℕ) (laid : Laid (table
   pieces = endings book reached
 
   abbrev ending : ℕ → Bool
-  ending p = some-of (eqb p) pieces
+  ending = among pieces
 
-  -- The closing places once the slot has been opened.
   abbrev closing : ℕ → ℕ
-  closing p = cond (waitsIn m (here % slots) p) (closesAfter (spanIn t p) here) (closingPlaceIn m p)
+  closing = opened t m here
 
   abbrev first : Ended
   first = record { marks = noMarks; memory = slotOpened t m here }
@@ -118,12 +116,12 @@ module _ (book : Book) (limits : Within book) (t : List ℕ) (laid : Laid (table
       step = kept-step book limits x a early-enough (closingPlaceIn m) (waitsIn m) (windows .kept) ending right
 
       close : (p : ℕ) → p < roomForPieces → closingPlaceIn (piecesEnded t here first pieces .memory) p ≡ upTo (spotCount book) (closingIn book now) p
-      close p room = done .closes p room ∙ same-closing book limits t laid x a m windows p room ∙ step .close p room
+      close p room = done .closes p room ∙ same-closing book limits t laid x m windows here pieces real p room ∙ step .close p room
 
       wait : (q p : ℕ) → q < slots → p < roomForPieces → waitsIn (piecesEnded t here first pieces .memory) q p ≡ waits book now q p
       wait q p slot room =
           all-waits t here closing m pieces all-inside first midway q p slot room
-          ∙ ap₂ _||_ (waits-slot t m here whole (windows .flags) q p slot room) (same-waiting book limits t laid x a m windows q p slot room)
+          ∙ ap₂ _||_ (waits-slot t m here whole (windows .flags) q p slot room) (same-waiting book limits t laid x m windows here pieces real q p slot room)
           ∙ step .wait q p slot room
 
   -- The marks are the phrases that match at the new place.
@@ -132,7 +130,7 @@ module _ (book : Book) (limits : Within book) (t : List ℕ) (laid : Laid (table
   marks-step j h =
       ap (λ (e : Ended). isMarked (e .marks) j) ended
       ∙ all-marked t here closing m pieces all-inside all-ranked first midway j
-      ∙ ap₂ _||_ (none-marked j) (same-marks book limits t laid x a m windows j)
+      ∙ ap₂ _||_ (none-marked j) (same-marks book limits t laid x m windows here pieces real j)
       ∙ marked-matches book limits x a early-enough (closingPlaceIn m) (waitsIn m) (windows .kept) ending right j h
 
   -- Nothing else is changed: the head, and what lies past the published size, are as they were.
