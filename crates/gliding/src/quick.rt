@@ -28,7 +28,8 @@ fn row(t: &[u8], states: usize, dense: usize, index: usize, byte: u8) -> usize
     tables::cell(t, column, state_at(index))
 }
 
-// What is found for a byte from a state on. The state is told by its index, which the loop over bytes keeps in one register.
+// What is found for a byte from a state on. The state is told by its index, which the loop over bytes keeps in one register. A turn looks at two states: so
+// this stays a function of its own, and the loops that seldom need it have their registers to themselves.
 pub fn sought(t: &[u8], states: usize, dense: usize, index: usize, byte: u8) -> usize
     requires { ⌜ (Whole (now t)) × (states ≤ roomForStates) × (1 ≤ dense) × (dense ≤ states) × (index < states) ⌝ }
     ensures { λ r. ⌜ (r ≡ soughtIn (now (t .entry)) states dense index byte) × (r < 65536) ⌝ }
@@ -39,7 +40,15 @@ pub fn sought(t: &[u8], states: usize, dense: usize, index: usize, byte: u8) -> 
         if child.number() != 0 {
             return child.index();
         }
-        from = tables::failure(t, state_at(from)).index();
+        let back = tables::failure(t, state_at(from)).index();
+        if back < dense {
+            return row(t, states, dense, back, byte);
+        }
+        let nearer = stepping::child_by(t, states, state_at(back), byte);
+        if nearer.number() != 0 {
+            return nearer.index();
+        }
+        from = tables::failure(t, state_at(back)).index();
     }
     row(t, states, dense, from, byte)
 }
