@@ -2,7 +2,7 @@
 //!
 //! `matcher`, `automaton` and `judge` are written from the paper's words alone and share no code and no table with the scanner. `shapes` and
 //! `letters` make the inputs, by a fixed seed; `cases` has those that are kept. The tests stand in `reading` (letters), `limits` (books at the limits),
-//! `refusing` (damaged books), `lending` (sizes and the order of refusals), `elsewhere` (damaged tables and running memory) and `farthest` (places up
+//! `long` (parts whose states are looked up ahead), `refusing` (damaged books), `lending` (sizes and the order of refusals), `elsewhere` (damaged tables and running memory) and `farthest` (places up
 //! to the largest; run on demand).
 mod automaton;
 mod book;
@@ -18,6 +18,7 @@ mod lending;
 mod letters;
 mod library;
 mod limits;
+mod long;
 mod matcher;
 mod reading;
 mod refusing;
