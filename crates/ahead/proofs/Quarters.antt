@@ -8,7 +8,7 @@ use lib.ListN.{length, getD}
 use Rattle.tables.specs.Reads.{stateCountIn}
 use Rattle.gliding.specs.Foreseen.{afterFrom, Looked}
 use Rattle.gliding.proofs.Foreseen.{after-add, after-inside}
-use Rattle.ahead.specs.Ahead.{Listed, Ran, Mended}
+use Rattle.ahead.specs.Ahead.{Listed, KeptFrom, Ran, Mended}
 use Rattle.ahead.specs.declared.turn.Cursors.{Cursors}
 use Rattle.ahead.proofs.Turns.{each-quarter}
 
@@ -71,5 +71,9 @@ module _ (t part : List ℕ) where
     right₃ : Right 3
     right₃ j l = mended₃ .listed .each j l ∙ joined (first + 3 * quarter) third (j + 1) (3 * quarter) (3 * quarter + j + 1) refl ended₃ (omega arith)
 
-    pub looked : (Looked t part first quarter state a₄) × (length a₄ ≡ length a₀)
-    looked = (record { each = λ k j few l. each-quarter Right right₀ right₁ right₂ right₃ k few j l }, mended₃ .long ∙ mended₂ .long ∙ mended₁ .long ∙ ran .long)
+    pub looked : (Looked t part first quarter state a₄) × (length a₄ ≡ length a₀) × (KeptFrom (4 * quarter) a₀ a₄)
+    looked = (
+      record { each = λ k j few l. each-quarter Right right₀ right₁ right₂ right₃ k few j l },
+      mended₃ .long ∙ mended₂ .long ∙ mended₁ .long ∙ ran .long,
+      record { each = λ i l. mended₃ .behind .each i l ∙ mended₂ .behind .each i l ∙ mended₁ .behind .each i l ∙ ran .behind .each i l },
+    )

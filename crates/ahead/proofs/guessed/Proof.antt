@@ -1,6 +1,8 @@
--- What the cursors come to over the last bytes before the quarters is one of the states.
+-- The walks over the last bytes of the quarters end in the guesses.
 -- Assumes nothing.
+use mathlib.Core.Path.{refl}
 use native.Mathlib.Omega.{arith}
+use Rattle.ahead.proofs.Guesses.{guessed-is}
 use borrow.Author.Needs.{needs}
 use Rattle.ahead.proofs.guessed.Statement.{statement}
 use Rattle.ahead.proofs.guessed.Tie as tie
@@ -38,7 +40,11 @@ same-length : tie.Need-same-length
 same-length c = search needs
 
 returns : tie.Need-returns
-returns c = search needs
+returns c =
+    let entry = c .before .before .before .before .before .before .before .before in
+    let a = entry .args in
+    let walked = c .before .before .before .run-four in
+    guessed-is (a .t .now) (a .part .now) (a .first) (a .quarter) (a .state .0) (walked .result) (a .ahead .now) _ (entry .pre .least) (walked .ensures) _ (entry .pre .inside) (c .index .ensures .0) refl refl refl
 
 pub guessed-spec : {M : Type 1} → statement M
 guessed-spec =

@@ -3,6 +3,7 @@
 use mathlib.Core.Path.{_∙_}
 use Prim.Native.Nat.{_+_, _*_}
 use native.Mathlib.Omega.{arith}
+use Rattle.ahead.proofs.Runs.{kept-over}
 use Rattle.ahead.proofs.Quarters.{listed-kept, ran-second, mended-inside, looked}
 use borrow.Author.Needs.{needs}
 use Rattle.ahead.proofs.look_ahead.Statement.{statement}
@@ -22,9 +23,9 @@ run-four-requires c κs =
         few-dense = ready .few-dense;
         columns = ready .columns;
         within = omega (arith, ready .within);
-        room = omega (arith, ready .room, guess .ensures .2);
+        room = omega (arith, ready .room, guess .ensures .long);
       },
-      guess .ensures .1,
+      guess .ensures .inside,
     )
 
 add-mend : tie.Need-add-mend
@@ -46,7 +47,7 @@ mend-requires c κs =
         quarters = omega arith;
         inside = ran .inside .first;
         within = omega (arith, ready .within);
-        room = omega (arith, ready .room, guess .ensures .2, ran .long);
+        room = omega (arith, ready .room, guess .ensures .long, ran .long);
       },
       second .0,
       second .1,
@@ -74,7 +75,7 @@ mend-requires-2 c κs =
         quarters = omega arith;
         inside = omega (arith, mended-inside (a .t .now) (a .part .now) _ _ _ _ _ _ _ mended (ran .inside .first));
         within = omega (arith, ready .within);
-        room = omega (arith, ready .room, guess .ensures .2, ran .long, mended .long);
+        room = omega (arith, ready .room, guess .ensures .long, ran .long, mended .long);
       },
       listed-kept (a .t .now) (a .part .now) (a .first + 2 * a .quarter) _ (a .quarter) 2 1 _ _ _ _ _ (omega arith) (λ e. omega arith) (ran .listed 2 (omega arith)) mended,
       ran .ended 2 (omega arith),
@@ -104,7 +105,7 @@ mend-requires-3 c κs =
         quarters = omega arith;
         inside = mended-inside (a .t .now) (a .part .now) _ _ _ _ _ _ _ again (omega (arith, mended-inside (a .t .now) (a .part .now) _ _ _ _ _ _ _ mended (ran .inside .first)));
         within = omega (arith, ready .within);
-        room = omega (arith, ready .room, guess .ensures .2, ran .long, mended .long, again .long);
+        room = omega (arith, ready .room, guess .ensures .long, ran .long, mended .long, again .long);
       },
       listed-kept (a .t .now) (a .part .now) (a .first + 3 * a .quarter) _ (a .quarter) 3 2 _ _ _ _ _ (omega arith) (λ e. omega arith) kept again,
       ran .ended 3 (omega arith),
@@ -115,10 +116,11 @@ same-length c = search needs
 
 returns : tie.Need-returns
 returns c =
-    let a = c .before .before .before .before .before .before .before .before .before .before .before .before .before .before .before .before .before .before .before .before .before .before .before .args in
+    let entry = c .before .before .before .before .before .before .before .before .before .before .before .before .before .before .before .before .before .before .before .before .before .before .before in
+    let a = entry .args in
     let guess = c .before .before .before .before .before .before .before .before .before .before .before .before .before .before .before .before .before .before .guessed in
-    let all = looked (a .t .now) (a .part .now) (a .first) (a .quarter) (a .state .0) _ _ _ _ _ _ _ _ _ _ (guess .ensures .0) (c .before .before .before .before .before .before .before .before .before .before .before .before .before .before .run-four .ensures) (c .before .before .before .before .before .before .before .before .before .before .mend .ensures) (c .before .before .before .before .before .before .mend2 .ensures) (c .before .before .mend3 .ensures) in
-    (all .0, all .1 ∙ guess .ensures .2)
+    let all = looked (a .t .now) (a .part .now) (a .first) (a .quarter) (a .state .0) _ _ _ _ _ _ _ _ _ _ (guess .ensures .at-hand) (c .before .before .before .before .before .before .before .before .before .before .before .before .before .before .run-four .ensures) (c .before .before .before .before .before .before .before .before .before .before .mend .ensures) (c .before .before .before .before .before .before .mend2 .ensures) (c .before .before .mend3 .ensures) in
+    (all .0, all .1 ∙ guess .ensures .long, kept-over (4 * a .quarter) 128 (a .ahead .now) _ _ (omega (arith, entry .pre .least)) (guess .ensures .behind) (all .2))
 
 pub look-ahead-spec : {M : Type 1} → statement M
 look-ahead-spec =
