@@ -37,12 +37,12 @@ pub record Ran (t part : List ℕ) (first quarter count : ℕ) (start end : Curs
   pub behind : KeptFrom (4 * count) before after
   pub long : length after ≡ length before
 
--- The guess for a quarter that begins at a byte of the part: the state in which a walk over the 32 bytes before it ends that began at the root.
+-- The guess for a quarter that begins at a byte of the part: the state that the 32 bytes before that byte lead to from the root.
 unfoldable pub guess : List ℕ → List ℕ → ℕ → ℕ
 guess t part from = afterFrom t part (from - 32) 0 32
 
--- Where the cursors begin: the first in the state at hand, each other one in the guess for its quarter. The first 128 numbers are the states of these walks, each over
--- the last 32 bytes of a quarter, that over the fourth among them; the numbers behind are as they were.
+-- Where the cursors begin: the first in the state at hand, each other one in the guess for its quarter. The first 128 numbers are the states on the way to
+-- the guesses, and those of a fourth walk, over the last 32 bytes of the fourth quarter. The numbers behind are as they were.
 pub record Guessed (t part : List ℕ) (first quarter state : ℕ) (start : Cursors) (before after : List ℕ) : Type 0 where
   pub at-hand : start .first ≡ state
   pub second : start .second ≡ guess t part (first + quarter)

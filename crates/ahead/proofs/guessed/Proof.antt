@@ -8,10 +8,10 @@ use Rattle.ahead.proofs.guessed.Statement.{statement}
 use Rattle.ahead.proofs.guessed.Tie as tie
 
 add-run-four : tie.Need-add-run-four
-add-run-four c = search needs
+add-run-four c = omega (arith, c .before .before .before .pre .within, c .before .before .before .pre .short)
 
 sub-run-four : tie.Need-sub-run-four
-sub-run-four c = search needs
+sub-run-four c = omega (arith, c .before .before .before .pre .least)
 
 run-four-requires : tie.Need-run-four-requires
 run-four-requires c κs =
@@ -37,7 +37,7 @@ index-requires : tie.Need-index-requires
 index-requires c κs = search needs
 
 same-length : tie.Need-same-length
-same-length c = search needs
+same-length c = c .before .before .before .run-four .ensures .long
 
 returns : tie.Need-returns
 returns c =
