@@ -28,7 +28,7 @@ mend-requires c κs =
     let guess = c .before .before .before .before .before .before .before .guessed .ensures in
     let ran = c .before .before .before .run-four .ensures in
     let second = ran-second (a .t .now) (a .part .now) (a .first) (a .quarter) (a .quarter) _ _ _ _ ran in (
-      again-ready (a .t .now) (a .part .now) (a .first) (a .quarter) (a .state .0) (a .ahead .now) (entry .pre) _ (ran .long ∙ guess .long) (a .first + a .quarter) 1 _ (omega arith) (ran .inside .first) (omega (arith, entry .pre .least)),
+      again-ready (a .t .now) (a .part .now) (a .first) (a .quarter) (a .state .0) (a .ahead .now) (entry .pre) _ (ran .long ∙ guess .long) _ 1 _ (omega arith) (ran .inside .first) (omega (arith, entry .pre .least)),
       second .0,
       second .1,
     )
@@ -46,8 +46,8 @@ mend-requires-2 c κs =
     let guess = c .before .before .before .before .before .before .before .before .before .before .before .guessed .ensures in
     let ran = c .before .before .before .before .before .before .before .run-four .ensures in
     let mended = c .before .before .before .mend .ensures in (
-      again-ready (a .t .now) (a .part .now) (a .first) (a .quarter) (a .state .0) (a .ahead .now) (entry .pre) _ (mended .long ∙ ran .long ∙ guess .long) (a .first + 2 * a .quarter) 2 _ (omega arith)
-          (mended-inside (a .t .now) (a .part .now) _ _ _ _ _ _ _ mended (ran .inside .first)) (omega (arith, entry .pre .least)),
+      again-ready (a .t .now) (a .part .now) (a .first) (a .quarter) (a .state .0) (a .ahead .now) (entry .pre) _ (mended .long ∙ ran .long ∙ guess .long) _ 2 _ (omega arith)
+          (omega (arith, mended-inside (a .t .now) (a .part .now) _ _ _ _ _ _ _ mended (ran .inside .first))) (omega (arith, entry .pre .least)),
       listed-kept (a .t .now) (a .part .now) (a .first + 2 * a .quarter) _ (a .quarter) 2 1 _ _ _ _ _ (omega arith) (λ e. omega arith) (ran .listed 2 (omega arith)) mended,
       ran .ended 2 (omega arith),
     )
@@ -68,8 +68,8 @@ mend-requires-3 c κs =
     let again = c .before .before .before .mend2 .ensures in
     let inside = mended-inside (a .t .now) (a .part .now) _ _ _ _ _ _ _ mended (ran .inside .first) in
     let kept = listed-kept (a .t .now) (a .part .now) (a .first + 3 * a .quarter) _ (a .quarter) 3 1 _ _ _ _ _ (omega arith) (λ e. omega arith) (ran .listed 3 (omega arith)) mended in (
-      again-ready (a .t .now) (a .part .now) (a .first) (a .quarter) (a .state .0) (a .ahead .now) (entry .pre) _ (again .long ∙ mended .long ∙ ran .long ∙ guess .long) (a .first + 3 * a .quarter) 3 _ (omega arith)
-          (mended-inside (a .t .now) (a .part .now) _ _ _ _ _ _ _ again inside) (omega (arith, entry .pre .least)),
+      again-ready (a .t .now) (a .part .now) (a .first) (a .quarter) (a .state .0) (a .ahead .now) (entry .pre) _ (again .long ∙ mended .long ∙ ran .long ∙ guess .long) _ 3 _ (omega arith)
+          (mended-inside (a .t .now) (a .part .now) _ _ _ _ _ _ _ again (omega (arith, inside))) (omega (arith, entry .pre .least)),
       listed-kept (a .t .now) (a .part .now) (a .first + 3 * a .quarter) _ (a .quarter) 3 2 _ _ _ _ _ (omega arith) (λ e. omega arith) kept again,
       ran .ended 3 (omega arith),
     )
