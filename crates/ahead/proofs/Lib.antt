@@ -1,4 +1,5 @@
 pub mod Fits
 pub mod Turns
 pub mod Runs
+pub mod Guesses
 pub mod Quarters

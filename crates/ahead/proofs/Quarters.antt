@@ -8,9 +8,35 @@ use lib.ListN.{length, getD}
 use Rattle.tables.specs.Reads.{stateCountIn}
 use Rattle.gliding.specs.Foreseen.{afterFrom, Looked}
 use Rattle.gliding.proofs.Foreseen.{after-add, after-inside}
-use Rattle.ahead.specs.Ahead.{Listed, Ran, Mended}
+use Rattle.ahead.specs.Ahead.{Listed, KeptFrom, RunReady, Ran, AgainReady, Mended, LookReady}
 use Rattle.ahead.specs.declared.turn.Cursors.{Cursors}
 use Rattle.ahead.proofs.Turns.{each-quarter}
+
+-- What holds before four quarters are looked up holds before their turns, and before one of them is looked up again: the numbers are as many.
+module _ (t part : List ℕ) (first quarter state : ℕ) (ahead : List ℕ) (ready : LookReady t part first quarter state ahead) (now : List ℕ) (long : length now ≡ length ahead) where
+  pub run-ready : RunReady t part first quarter quarter now
+  run-ready = record {
+    tables = ready .tables;
+    few-states = ready .few-states;
+    some-dense = ready .some-dense;
+    few-dense = ready .few-dense;
+    columns = ready .columns;
+    within = omega (arith, ready .within);
+    room = omega (arith, ready .room, long);
+  }
+
+  pub again-ready : (from k at : ℕ) → k < 4 → at < stateCountIn t → from + quarter ≤ first + 4 * quarter → AgainReady t part from quarter k at now
+  again-ready from k at few inside before = record {
+    tables = ready .tables;
+    few-states = ready .few-states;
+    some-dense = ready .some-dense;
+    few-dense = ready .few-dense;
+    columns = ready .columns;
+    quarters = few;
+    inside = inside;
+    within = omega (arith, ready .within, before);
+    room = omega (arith, ready .room, long);
+  }
 
 module _ (t part : List ℕ) where
   -- A quarter whose numbers are as they were is still listed.
@@ -71,5 +97,9 @@ module _ (t part : List ℕ) where
     right₃ : Right 3
     right₃ j l = mended₃ .listed .each j l ∙ joined (first + 3 * quarter) third (j + 1) (3 * quarter) (3 * quarter + j + 1) refl ended₃ (omega arith)
 
-    pub looked : (Looked t part first quarter state a₄) × (length a₄ ≡ length a₀)
-    looked = (record { each = λ k j few l. each-quarter Right right₀ right₁ right₂ right₃ k few j l }, mended₃ .long ∙ mended₂ .long ∙ mended₁ .long ∙ ran .long)
+    pub looked : (Looked t part first quarter state a₄) × (length a₄ ≡ length a₀) × (KeptFrom (4 * quarter) a₀ a₄)
+    looked = (
+      record { each = λ k j few l. each-quarter Right right₀ right₁ right₂ right₃ k few j l },
+      mended₃ .long ∙ mended₂ .long ∙ mended₁ .long ∙ ran .long,
+      record { each = λ i l. mended₃ .behind .each i l ∙ mended₂ .behind .each i l ∙ mended₁ .behind .each i l ∙ ran .behind .each i l },
+    )

@@ -13,9 +13,17 @@ use Rattle.gliding.specs.Quick.{quickIn}
 use Rattle.gliding.specs.Foreseen.{afterFrom}
 use Rattle.gliding.proofs.Foreseen.{after-more}
 use Rattle.ahead.specs.Cursors.{cursor, Below, Turned, withFour}
-use Rattle.ahead.specs.Ahead.{Listed, Ran, Mended}
+use Rattle.ahead.specs.Ahead.{Listed, KeptFrom, Ran, Mended}
 use Rattle.ahead.specs.declared.turn.Cursors.{Cursors}
-use Rattle.ahead.proofs.Turns.{turned-each, length-four, four-there, four-before}
+use Rattle.ahead.proofs.Turns.{turned-each, length-four, four-there, four-others}
+
+-- Nothing was written.
+pub kept-none : (from : ℕ) (ahead : List ℕ) → KeptFrom from ahead ahead
+kept-none from ahead = record { each = λ i l. refl }
+
+-- What neither of two calls wrote is as it was, where the first wrote no farther than the second.
+pub kept-over : (from early : ℕ) (before between after : List ℕ) → early ≤ from → KeptFrom early before between → KeptFrom from between after → KeptFrom from before after
+kept-over from early before between after less first then = record { each = λ i l. then .each i l ∙ first .each i (omega arith) }
 
 module _ (t part : List ℕ) where
   -- One byte more of a quarter.
@@ -40,7 +48,7 @@ module _ (t part : List ℕ) where
   module _ (first quarter : ℕ) (start : Cursors) (before : List ℕ) where
     pub ran-none : Below (stateCountIn t) start → Ran t part first quarter 0 start start before before
     unfolding afterFrom
-    ran-none inside = record { ended = λ k l. refl; listed = λ k l. record { each = λ j m. absurd (omega arith) }; inside = inside; long = refl }
+    ran-none inside = record { ended = λ k l. refl; listed = λ k l. record { each = λ j m. absurd (omega arith) }; inside = inside; behind = kept-none 0 before; long = refl }
 
     pub ran-more : (count states dense : ℕ) (cursors next : Cursors) (ahead after : List ℕ) → states ≡ stateCountIn t → dense ≡ denseIn t
         → Ran t part first quarter count start cursors before ahead → Turned t part states dense (first + count) quarter cursors next
@@ -48,10 +56,11 @@ module _ (t part : List ℕ) where
     ran-more count states dense cursors next ahead after counted rows ran turned room e = record {
       ended = on;
       listed = λ k l. listed-more (first + k * quarter) (cursor start k) count k (cursor next k) ahead after (ran .listed k l)
-          (λ j m. ap (λ (a : List ℕ). getD a (4 * j + k) 0) e ∙ four-before ahead (4 * count) next (4 * j + k) (omega arith))
+          (λ j m. ap (λ (a : List ℕ). getD a (4 * j + k) 0) e ∙ four-others ahead (4 * count) next (4 * j + k) (λ q few z. omega arith))
           (ap (λ (a : List ℕ). getD a (4 * count + k) 0) e ∙ four-there ahead (4 * count) next room k l)
           (on k l);
       inside = rw counted at (turned .inside);
+      behind = record { each = λ i l. ap (λ (a : List ℕ). getD a i 0) e ∙ four-others ahead (4 * count) next i (λ q few z. omega arith) ∙ ran .behind .each i (omega arith) };
       long = ap length e ∙ length-four ahead (4 * count) next ∙ ran .long;
     }
       where
@@ -67,7 +76,7 @@ module _ (t part : List ℕ) where
   module _ (from k state : ℕ) (before : List ℕ) where
     pub mended-none : Mended t part from 0 k state state before before
     unfolding afterFrom
-    mended-none = record { ended = refl; listed = record { each = λ j m. absurd (omega arith) }; others = λ l j m d. refl; long = refl }
+    mended-none = record { ended = refl; listed = record { each = λ j m. absurd (omega arith) }; others = λ l j m d. refl; behind = kept-none 0 before; long = refl }
 
     pub mended-more : (count states dense index next : ℕ) (ahead after : List ℕ) → states ≡ stateCountIn t → dense ≡ denseIn t → k < 4
         → Mended t part from count k state index before ahead → next ≡ quickIn t states dense index (getD part (from + count) 0)
@@ -79,6 +88,7 @@ module _ (t part : List ℕ) where
           (ap (λ (a : List ℕ). getD a (4 * count + k) 0) e ∙ getD-set-same ahead (4 * count + k) next 0 room)
           on;
       others = λ l j m d. kept (4 * j + l) (λ z. d (omega arith)) ∙ mended .others l j m d;
+      behind = record { each = λ i l. kept i (λ z. omega arith) ∙ mended .behind .each i (omega arith) };
       long = ap length e ∙ length-set ahead (4 * count + k) next ∙ mended .long;
     }
       where
@@ -96,5 +106,6 @@ module _ (t part : List ℕ) where
       ended = is ∙ ap (λ (s : ℕ). afterFrom t part from s quarter) (sym e);
       listed = record { each = λ j l. listed .each j l ∙ ap (λ (s : ℕ). afterFrom t part from s (j + 1)) (sym e) };
       others = λ l j m d. refl;
+      behind = kept-none (4 * quarter) before;
       long = refl;
     }

@@ -106,8 +106,10 @@ module _ (ahead : List ℕ) (at : ℕ) (cursors : Cursors) where
       (getD-set-other three (at + 3) (at + 2) _ 0 (λ e. omega arith) ∙ getD-set-same two (at + 2) (cursors .third) 0 (simp length-set (omega arith)))
       (getD-set-same three (at + 3) _ 0 (simp length-set (omega arith)))
 
-  pub four-before : (p : ℕ) → p < at → getD (withFour ahead at cursors) p 0 ≡ getD ahead p 0
+  -- A number that is none of the four is as it was.
+  pub four-others : (p : ℕ) → ((k : ℕ) → k < 4 → p ≡ at + k → ⊥) → getD (withFour ahead at cursors) p 0 ≡ getD ahead p 0
   unfolding withFour
-  four-before p l =
-      getD-set-other three (at + 3) p _ 0 (λ e. omega arith) ∙ getD-set-other two (at + 2) p (cursors .third) 0 (λ e. omega arith)
-      ∙ getD-set-other one (at + 1) p (cursors .second) 0 (λ e. omega arith) ∙ getD-set-other ahead at p (cursors .first) 0 (λ e. omega arith)
+  four-others p apart =
+      getD-set-other three (at + 3) p _ 0 (apart 3 (omega arith)) ∙ getD-set-other two (at + 2) p (cursors .third) 0 (apart 2 (omega arith))
+      ∙ getD-set-other one (at + 1) p (cursors .second) 0 (apart 1 (omega arith))
+      ∙ getD-set-other ahead at p (cursors .first) 0 (λ e. apart 0 (omega arith) (omega arith))

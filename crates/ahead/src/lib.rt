@@ -7,7 +7,7 @@ ghost use Rattle.tables.specs.Layout.{roomForStates};
 ghost use Rattle.tables.specs.Reads.{stateCountIn};
 ghost use Rattle.gliding.specs.Foreseen.{afterFrom, Looked};
 ghost use Rattle.ahead.specs.Cursors.{Below, withFour};
-ghost use Rattle.ahead.specs.Ahead.{Listed, RunReady, Ran, AgainReady, Mended, LookReady};
+ghost use Rattle.ahead.specs.Ahead.{Listed, KeptFrom, RunReady, Ran, Guessed, AgainReady, Mended, LookReady};
 use counters::State;
 use turn::Cursors;
 
@@ -69,7 +69,7 @@ fn guessed(
     ahead: &mut [u16],
 ) -> Cursors
     requires { ⌜ LookReady (now t) (now part) first quarter (state .0) (now ahead) ⌝ }
-    ensures { λ r. ⌜ (r .first ≡ state .0) × (Below (stateCountIn (now (t .entry))) r) × (length (now (ahead .exit)) ≡ length (now (ahead .entry))) ⌝ }
+    ensures { λ r. ⌜ Guessed (now (t .entry)) (now (part .entry)) first quarter (state .0) r (now (ahead .entry)) (now (ahead .exit)) ⌝ }
 {
     let roots = Cursors {
         first: 0,
@@ -141,7 +141,8 @@ fn mend(
     run_again(t, part, from, quarter, k, state, ahead)
 }
 
-// Looks up the states that the bytes of four quarters lead to, from a byte of the part on: every fourth number is of the same quarter.
+// Looks up the states that the bytes of four quarters lead to, from a byte of the part on: every fourth number is of the same quarter. The numbers behind are as they
+// were: a quarter is no shorter than the warming up, so that what was written for the guesses is written over.
 pub fn look_ahead(
     t: &[u8],
     part: &[u8],
@@ -151,7 +152,7 @@ pub fn look_ahead(
     ahead: &mut [u16],
 )
     requires { ⌜ LookReady (now t) (now part) first quarter (state .0) (now ahead) ⌝ }
-    ensures { λ _. ⌜ (Looked (now (t .entry)) (now (part .entry)) first quarter (state .0) (now (ahead .exit))) × (length (now (ahead .exit)) ≡ length (now (ahead .entry))) ⌝ }
+    ensures { λ _. ⌜ (Looked (now (t .entry)) (now (part .entry)) first quarter (state .0) (now (ahead .exit))) × (length (now (ahead .exit)) ≡ length (now (ahead .entry))) × (KeptFrom (4 * quarter) (now (ahead .entry)) (now (ahead .exit))) ⌝ }
 {
     let start = guessed(t, part, first, quarter, state, ahead);
     let ends = run_four(t, part, first, quarter, quarter, start, ahead);

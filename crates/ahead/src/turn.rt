@@ -27,7 +27,7 @@ struct Columns {
 
 // Whether all four are below a number.
 fn all_below(limit: usize, cursors: Cursors) -> bool
-    ensures { λ r. ⌜ (r ≡ true → Below limit cursors) ⌝ }
+    ensures { λ r. ⌜ (r ≡ true → Below limit cursors) × (Below limit cursors → r ≡ true) ⌝ }
 {
     if limit <= cursors.first {
         return false;

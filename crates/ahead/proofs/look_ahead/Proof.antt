@@ -3,79 +3,51 @@
 use mathlib.Core.Path.{_∙_}
 use Prim.Native.Nat.{_+_, _*_}
 use native.Mathlib.Omega.{arith}
-use Rattle.ahead.proofs.Quarters.{listed-kept, ran-second, mended-inside, looked}
-use borrow.Author.Needs.{needs}
+use Rattle.ahead.proofs.Runs.{kept-over}
+use Rattle.ahead.proofs.Quarters.{run-ready, again-ready, listed-kept, ran-second, mended-inside, looked}
 use Rattle.ahead.proofs.look_ahead.Statement.{statement}
 use Rattle.ahead.proofs.look_ahead.Tie as tie
 
 guessed-requires : tie.Need-guessed-requires
-guessed-requires c κs = search needs
+guessed-requires c κs = c .before .before .before .before .pre
 
 run-four-requires : tie.Need-run-four-requires
 run-four-requires c κs =
-    let ready = c .before .before .before .before .before .before .before .before .pre in
-    let guess = c .before .before .before .guessed in (
-      record {
-        tables = ready .tables;
-        few-states = ready .few-states;
-        some-dense = ready .some-dense;
-        few-dense = ready .few-dense;
-        columns = ready .columns;
-        within = omega (arith, ready .within);
-        room = omega (arith, ready .room, guess .ensures .2);
-      },
-      guess .ensures .1,
-    )
+    let entry = c .before .before .before .before .before .before .before .before in
+    let a = entry .args in
+    let guess = c .before .before .before .guessed .ensures in
+    (run-ready (a .t .now) (a .part .now) (a .first) (a .quarter) (a .state .0) (a .ahead .now) (entry .pre) _ (guess .long), guess .inside)
 
 add-mend : tie.Need-add-mend
-add-mend c = search needs
+add-mend c = omega (arith, c .before .before .before .before .before .before .before .before .before .before .before .pre .within, c .before .before .before .before .before .before .before .before .before .before .before .pre .short)
 
 mend-requires : tie.Need-mend-requires
 mend-requires c κs =
-    let ready = c .before .before .before .before .before .before .before .before .before .before .before .before .pre in
-    let a = c .before .before .before .before .before .before .before .before .before .before .before .before .args in
-    let guess = c .before .before .before .before .before .before .before .guessed in
+    let entry = c .before .before .before .before .before .before .before .before .before .before .before .before in
+    let a = entry .args in
+    let guess = c .before .before .before .before .before .before .before .guessed .ensures in
     let ran = c .before .before .before .run-four .ensures in
     let second = ran-second (a .t .now) (a .part .now) (a .first) (a .quarter) (a .quarter) _ _ _ _ ran in (
-      record {
-        tables = ready .tables;
-        few-states = ready .few-states;
-        some-dense = ready .some-dense;
-        few-dense = ready .few-dense;
-        columns = ready .columns;
-        quarters = omega arith;
-        inside = ran .inside .first;
-        within = omega (arith, ready .within);
-        room = omega (arith, ready .room, guess .ensures .2, ran .long);
-      },
+      again-ready (a .t .now) (a .part .now) (a .first) (a .quarter) (a .state .0) (a .ahead .now) (entry .pre) _ (ran .long ∙ guess .long) _ 1 _ (omega arith) (ran .inside .first) (omega (arith, entry .pre .least)),
       second .0,
       second .1,
     )
 
 mul-mend : tie.Need-mul-mend
-mul-mend c = search needs
+mul-mend c = omega (arith, c .before .before .before .before .before .before .before .before .before .before .before .before .before .before .before .pre .most)
 
 add-mend-2 : tie.Need-add-mend-2
-add-mend-2 c = search needs
+add-mend-2 c = omega (arith, c .before .before .before .before .before .before .before .before .before .before .before .before .before .before .before .pre .within, c .before .before .before .before .before .before .before .before .before .before .before .before .before .before .before .pre .short)
 
 mend-requires-2 : tie.Need-mend-requires-2
 mend-requires-2 c κs =
-    let ready = c .before .before .before .before .before .before .before .before .before .before .before .before .before .before .before .before .pre in
-    let a = c .before .before .before .before .before .before .before .before .before .before .before .before .before .before .before .before .args in
-    let guess = c .before .before .before .before .before .before .before .before .before .before .before .guessed in
+    let entry = c .before .before .before .before .before .before .before .before .before .before .before .before .before .before .before .before in
+    let a = entry .args in
+    let guess = c .before .before .before .before .before .before .before .before .before .before .before .guessed .ensures in
     let ran = c .before .before .before .before .before .before .before .run-four .ensures in
     let mended = c .before .before .before .mend .ensures in (
-      record {
-        tables = ready .tables;
-        few-states = ready .few-states;
-        some-dense = ready .some-dense;
-        few-dense = ready .few-dense;
-        columns = ready .columns;
-        quarters = omega arith;
-        inside = omega (arith, mended-inside (a .t .now) (a .part .now) _ _ _ _ _ _ _ mended (ran .inside .first));
-        within = omega (arith, ready .within);
-        room = omega (arith, ready .room, guess .ensures .2, ran .long, mended .long);
-      },
+      again-ready (a .t .now) (a .part .now) (a .first) (a .quarter) (a .state .0) (a .ahead .now) (entry .pre) _ (mended .long ∙ ran .long ∙ guess .long) _ 2 _ (omega arith)
+          (omega (arith, mended-inside (a .t .now) (a .part .now) _ _ _ _ _ _ _ mended (ran .inside .first))) (omega (arith, entry .pre .least)),
       listed-kept (a .t .now) (a .part .now) (a .first + 2 * a .quarter) _ (a .quarter) 2 1 _ _ _ _ _ (omega arith) (λ e. omega arith) (ran .listed 2 (omega arith)) mended,
       ran .ended 2 (omega arith),
     )
@@ -88,37 +60,30 @@ add-mend-3 c = omega (arith, c .before .before .before .before .before .before .
 
 mend-requires-3 : tie.Need-mend-requires-3
 mend-requires-3 c κs =
-    let ready = c .before .before .before .before .before .before .before .before .before .before .before .before .before .before .before .before .before .before .before .before .pre in
-    let a = c .before .before .before .before .before .before .before .before .before .before .before .before .before .before .before .before .before .before .before .before .args in
-    let guess = c .before .before .before .before .before .before .before .before .before .before .before .before .before .before .before .guessed in
+    let entry = c .before .before .before .before .before .before .before .before .before .before .before .before .before .before .before .before .before .before .before .before in
+    let a = entry .args in
+    let guess = c .before .before .before .before .before .before .before .before .before .before .before .before .before .before .before .guessed .ensures in
     let ran = c .before .before .before .before .before .before .before .before .before .before .before .run-four .ensures in
     let mended = c .before .before .before .before .before .before .before .mend .ensures in
     let again = c .before .before .before .mend2 .ensures in
+    let inside = mended-inside (a .t .now) (a .part .now) _ _ _ _ _ _ _ mended (ran .inside .first) in
     let kept = listed-kept (a .t .now) (a .part .now) (a .first + 3 * a .quarter) _ (a .quarter) 3 1 _ _ _ _ _ (omega arith) (λ e. omega arith) (ran .listed 3 (omega arith)) mended in (
-      record {
-        tables = ready .tables;
-        few-states = ready .few-states;
-        some-dense = ready .some-dense;
-        few-dense = ready .few-dense;
-        columns = ready .columns;
-        quarters = omega arith;
-        inside = mended-inside (a .t .now) (a .part .now) _ _ _ _ _ _ _ again (omega (arith, mended-inside (a .t .now) (a .part .now) _ _ _ _ _ _ _ mended (ran .inside .first)));
-        within = omega (arith, ready .within);
-        room = omega (arith, ready .room, guess .ensures .2, ran .long, mended .long, again .long);
-      },
+      again-ready (a .t .now) (a .part .now) (a .first) (a .quarter) (a .state .0) (a .ahead .now) (entry .pre) _ (again .long ∙ mended .long ∙ ran .long ∙ guess .long) _ 3 _ (omega arith)
+          (mended-inside (a .t .now) (a .part .now) _ _ _ _ _ _ _ again (omega (arith, inside))) (omega (arith, entry .pre .least)),
       listed-kept (a .t .now) (a .part .now) (a .first + 3 * a .quarter) _ (a .quarter) 3 2 _ _ _ _ _ (omega arith) (λ e. omega arith) kept again,
       ran .ended 3 (omega arith),
     )
 
 same-length : tie.Need-same-length
-same-length c = search needs
+same-length c = c .before .before .mend3 .ensures .long ∙ c .before .before .before .before .before .before .mend2 .ensures .long ∙ c .before .before .before .before .before .before .before .before .before .before .mend .ensures .long ∙ c .before .before .before .before .before .before .before .before .before .before .before .before .before .before .run-four .ensures .long ∙ c .before .before .before .before .before .before .before .before .before .before .before .before .before .before .before .before .before .before .guessed .ensures .long
 
 returns : tie.Need-returns
 returns c =
-    let a = c .before .before .before .before .before .before .before .before .before .before .before .before .before .before .before .before .before .before .before .before .before .before .before .args in
-    let guess = c .before .before .before .before .before .before .before .before .before .before .before .before .before .before .before .before .before .before .guessed in
-    let all = looked (a .t .now) (a .part .now) (a .first) (a .quarter) (a .state .0) _ _ _ _ _ _ _ _ _ _ (guess .ensures .0) (c .before .before .before .before .before .before .before .before .before .before .before .before .before .before .run-four .ensures) (c .before .before .before .before .before .before .before .before .before .before .mend .ensures) (c .before .before .before .before .before .before .mend2 .ensures) (c .before .before .mend3 .ensures) in
-    (all .0, all .1 ∙ guess .ensures .2)
+    let entry = c .before .before .before .before .before .before .before .before .before .before .before .before .before .before .before .before .before .before .before .before .before .before .before in
+    let a = entry .args in
+    let guess = c .before .before .before .before .before .before .before .before .before .before .before .before .before .before .before .before .before .before .guessed .ensures in
+    let all = looked (a .t .now) (a .part .now) (a .first) (a .quarter) (a .state .0) _ _ _ _ _ _ _ _ _ _ (guess .at-hand) (c .before .before .before .before .before .before .before .before .before .before .before .before .before .before .run-four .ensures) (c .before .before .before .before .before .before .before .before .before .before .mend .ensures) (c .before .before .before .before .before .before .mend2 .ensures) (c .before .before .mend3 .ensures) in
+    (all .0, all .1 ∙ guess .long, kept-over (4 * a .quarter) 128 (a .ahead .now) _ _ (omega (arith, entry .pre .least)) (guess .behind) (all .2))
 
 pub look-ahead-spec : {M : Type 1} → statement M
 look-ahead-spec =

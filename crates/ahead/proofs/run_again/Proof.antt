@@ -31,10 +31,10 @@ loop-holds c =
     (omega arith, c .before .state-count .ensures .0, c .dense .ensures .0, omega (arith, entry .pre .inside, c .before .state-count .ensures .0), mended-none (a .t .now) (a .part .now) (a .from) (a .k) (a .state) (a .ahead .now))
 
 add-byte : tie.Need-add-byte Inv-loop μ-loop
-add-byte c = omega (arith, c .before .before .before .before .before .before .before .pre .within)
+add-byte c = omega (arith, c .before .before .before .before .before .before .before .pre .within, c .before .before .before .before .before .before .before .good .1 .0 .0, c .loop-test .taken)
 
 shared-slice-read-byte : tie.Need-shared-slice-read-byte Inv-loop μ-loop
-shared-slice-read-byte c = omega (arith, c .before .before .before .before .before .before .before .before .pre .within)
+shared-slice-read-byte c = omega (arith, c .before .before .before .before .before .before .before .before .pre .within, c .before .loop-test .taken)
 
 column-requires : tie.Need-column-requires Inv-loop μ-loop
 column-requires c κs = c .before .before .before .before .before .before .before .before .pre .tables
@@ -60,22 +60,22 @@ cast-ahead : tie.Need-cast-ahead Inv-loop μ-loop
 cast-ahead c = omega (arith, c .next-of .ensures .1, c .before .before .before .before .loop .inv .1, c .before .before .before .before .before .before .before .before .before .before .pre .few-states)
 
 mul-ahead : tie.Need-mul-ahead Inv-loop μ-loop
-mul-ahead c = omega arith
+mul-ahead c = omega (arith, c .before .before .before .before .before .before .before .before .before .before .pre .room, c .before .before .before .before .before .before .before .before .before .before .good .1 .1 .1 .1 .1 .1 .0 .0, c .before .before .before .loop-test .taken)
 
 add-ahead : tie.Need-add-ahead Inv-loop μ-loop
-add-ahead c = omega (arith, c .before .before .before .before .before .before .before .before .before .before .pre .quarters)
+add-ahead c = omega (arith, c .before .before .before .before .before .before .before .before .before .before .pre .quarters, c .before .before .before .before .before .before .before .before .before .before .pre .room, c .before .before .before .before .before .before .before .before .before .before .good .1 .1 .1 .1 .1 .1 .0 .0, c .before .before .before .loop-test .taken)
 
 mul-ahead-2 : tie.Need-mul-ahead-2 Inv-loop μ-loop
-mul-ahead-2 c = omega arith
+mul-ahead-2 c = omega (arith, c .before .before .before .before .before .before .before .before .before .before .pre .quarters, c .before .before .before .before .before .before .before .before .before .before .pre .room, c .before .before .before .before .before .before .before .before .before .before .good .1 .1 .1 .1 .1 .1 .0 .1, c .before .before .before .loop-test .taken)
 
 slice-write-ahead : tie.Need-slice-write-ahead Inv-loop μ-loop
 slice-write-ahead c = omega (arith, c .before .before .before .before .before .before .before .before .before .before .pre .room, c .before .before .before .before .before .before .before .before .before .before .pre .quarters, c .before .before .before .before .loop .inv .4 .long, c .before .before .before .loop-test .taken)
 
 add-i : tie.Need-add-i Inv-loop μ-loop
-add-i c = omega arith
+add-i c = omega (arith, c .before .before .before .before .before .before .before .before .before .before .fits .quarter, c .before .before .before .loop-test .taken)
 
 loop-less : tie.Need-loop-less Inv-loop μ-loop
-loop-less c = omega arith
+loop-less c = omega (arith, c .before .before .before .loop-test .taken)
 
 loop-again : tie.Need-loop-again Inv-loop μ-loop
 loop-again c =
@@ -84,7 +84,7 @@ loop-again c =
     let a = entry .args in
     let inv = at .loop .inv in
     let next = c .next-of in (
-      omega arith,
+      omega (arith, c .before .before .before .loop-test .taken),
       inv .1,
       inv .2,
       next .ensures .1,
@@ -93,12 +93,12 @@ loop-again c =
     )
 
 same-length : tie.Need-same-length Inv-loop μ-loop
-same-length c = omega (arith, c .before .loop .inv .4 .long)
+same-length c = c .before .loop .inv .4 .long
 
 returns : tie.Need-returns Inv-loop μ-loop
 returns c =
     let at = c .before in
-    let done : at .loop .i ≡ c .before .before .before .before .before .before .before .args .quarter = omega arith in
+    let done : at .loop .i ≡ c .before .before .before .before .before .before .before .args .quarter = omega (arith, at .loop .inv .0, c .loop-test .left) in
     rw done at (at .loop .inv .4)
 
 pub run-again-spec : {M : Type 1} → statement M

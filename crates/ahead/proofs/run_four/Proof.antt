@@ -28,7 +28,7 @@ loop-holds c =
     (omega arith, c .before .state-count .ensures .0, c .dense .ensures .0, ran-none (a .t .now) (a .part .now) (a .first) (a .quarter) (a .start) (a .ahead .now) (entry .pre .1))
 
 add-turn : tie.Need-add-turn Inv-loop μ-loop
-add-turn c = omega (arith, c .before .before .before .before .before .before .before .pre .0 .within)
+add-turn c = omega (arith, c .before .before .before .before .before .before .before .pre .0 .within, c .before .before .before .before .before .before .before .good .1 .0 .0, c .loop-test .taken)
 
 turn-requires : tie.Need-turn-requires Inv-loop μ-loop
 turn-requires c κs =
@@ -48,7 +48,7 @@ turn-requires c κs =
     }
 
 mul-put-four : tie.Need-mul-put-four Inv-loop μ-loop
-mul-put-four c = omega arith
+mul-put-four c = omega (arith, c .before .before .before .before .before .before .before .before .before .pre .0 .room, c .before .before .before .before .before .before .before .before .before .good .1 .1 .1 .1 .1 .1 .0 .0, c .before .before .loop-test .taken)
 
 put-four-requires : tie.Need-put-four-requires Inv-loop μ-loop
 put-four-requires c κs =
@@ -66,10 +66,10 @@ put-four-requires c κs =
     )
 
 add-i : tie.Need-add-i Inv-loop μ-loop
-add-i c = omega arith
+add-i c = omega (arith, c .before .before .before .before .before .before .before .before .before .before .before .before .fits .count, c .before .before .before .before .before .loop-test .taken)
 
 loop-less : tie.Need-loop-less Inv-loop μ-loop
-loop-less c = omega arith
+loop-less c = omega (arith, c .before .before .before .before .before .loop-test .taken)
 
 loop-again : tie.Need-loop-again Inv-loop μ-loop
 loop-again c =
@@ -78,7 +78,7 @@ loop-again c =
     let a = entry .args in
     let inv = at .loop .inv in
     let turn = c .before .before .before .before .turn in (
-      omega arith,
+      omega (arith, c .before .before .before .before .before .loop-test .taken),
       inv .1,
       inv .2,
       ran-more (a .t .now) (a .part .now) (a .first) (a .quarter) (a .start) (a .ahead .now) (at .loop .i) _ _ (at .loop .cursors) (turn .result) (at .loop .ahead) _ (inv .1) (inv .2) (inv .3) (turn .ensures)
@@ -86,12 +86,12 @@ loop-again c =
     )
 
 same-length : tie.Need-same-length Inv-loop μ-loop
-same-length c = omega (arith, c .before .loop .inv .3 .long)
+same-length c = c .before .loop .inv .3 .long
 
 returns : tie.Need-returns Inv-loop μ-loop
 returns c =
     let at = c .before in
-    let done : at .loop .i ≡ c .before .before .before .before .before .before .before .args .count = omega arith in
+    let done : at .loop .i ≡ c .before .before .before .before .before .before .before .args .count = omega (arith, at .loop .inv .0, c .loop-test .left) in
     rw done at (at .loop .inv .3)
 
 pub run-four-spec : {M : Type 1} → statement M

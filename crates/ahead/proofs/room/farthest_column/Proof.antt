@@ -1,9 +1,9 @@
 -- After so many turns it is the last place for so many bytes.
 -- Assumes nothing.
-use mathlib.Core.Path.{_≡_, refl}
+use mathlib.Core.Path.{_≡_, refl, ap, _∙_}
 use Prim.Native.Nat.{_-_, _≤_}
 use native.Mathlib.Omega.{arith}
-use Rattle.ahead.specs.Columns.{farthest}
+use Rattle.ahead.specs.Columns.{larger, farthest}
 use Rattle.ahead.proofs.Fits.{farthest-more}
 use borrow.Author.Needs.{needs}
 use Rattle.ahead.proofs.room.farthest_column.Statement.{statement}
@@ -40,8 +40,8 @@ loop-less c = omega arith
 loop-again : tie.Need-loop-again Inv-loop μ-loop
 loop-again c =
     let at = c .before .before .before in
-    let a = at .before .before .args in
-    (omega arith, farthest-more (a .t .now) (at .loop .byte) (at .loop .last) _ (at .loop .inv .1) (cc))
+    let t = at .before .before .args .t .now in
+    (omega arith, farthest-more t (at .loop .byte) (at .loop .last) _ (at .loop .inv .1) (c .larger .ensures ∙ ap (larger (at .loop .last)) (c .before .get2 .ensures)))
 
 returns : tie.Need-returns Inv-loop μ-loop
 returns c =

@@ -1,9 +1,7 @@
 -- The column is the part of the memory from its place on, and the cell stands in it at twice the number of the state.
 -- Assumes nothing.
-use Prim.Native.Nat.{_-_}
-use native.Mathlib.Omega.{arith}
-use lib.ListN.{length}
-use Rattle.tables.proofs.Cells.{cell-in}
+use mathlib.Core.Path.{refl}
+use Rattle.tables.proofs.Cells.{cell-read}
 use borrow.Author.Needs.{needs}
 use Rattle.ahead.proofs.turn.cell_of.Statement.{statement}
 use Rattle.ahead.proofs.turn.cell_of.Tie as tie
@@ -28,8 +26,8 @@ pair-size-requires c κs = search needs
 
 returns : tie.Need-returns
 returns c =
-    let a = c .before .before .before .before .args in
-    cc (cell-in (a .t .now) (a .column) (a .index) (length (a .t .now) - a .column) (omega arith))
+    let entry = c .before .before .before .before in
+    cell-read (entry .args .t .now) (entry .args .column) (entry .pre) refl (c .before .get2 .ensures) (c .pair-size .ensures .0)
 
 pub cell-of-spec : {M : Type 1} → statement M
 cell-of-spec =

@@ -5,48 +5,47 @@ use native.Mathlib.Omega.{arith}
 use lib.ListN.{getD}
 use Rattle.tables.specs.Layout.{roomForStates}
 use Rattle.ahead.proofs.Turns.{column-of}
-use borrow.Author.Needs.{needs}
 use Rattle.ahead.proofs.turn.columns_at.Statement.{statement}
 use Rattle.ahead.proofs.turn.columns_at.Tie as tie
 
 shared-slice-read-column : tie.Need-shared-slice-read-column
-shared-slice-read-column c = search needs
+shared-slice-read-column c = omega (arith, c .before .before .before .pre .within)
 
 column-requires : tie.Need-column-requires
-column-requires c κs = search needs
+column-requires c κs = c .before .before .before .pre .tables
 
 add-column : tie.Need-add-column
-add-column c = search needs
+add-column c = omega (arith, c .before .before .before .before .pre .within, c .before .before .before .before .good .1 .1 .1 .0 .0)
 
 shared-slice-read-column-2 : tie.Need-shared-slice-read-column-2
-shared-slice-read-column-2 c = search needs
+shared-slice-read-column-2 c = omega (arith, c .before .before .before .before .before .pre .within)
 
 column-requires-2 : tie.Need-column-requires-2
-column-requires-2 c κs = search needs
+column-requires-2 c κs = c .before .before .before .before .before .pre .tables
 
 mul-column : tie.Need-mul-column
-mul-column c = search needs
+mul-column c = omega (arith, c .before .before .before .before .before .before .pre .within, c .before .before .before .before .before .before .good .1 .1 .1 .0 .0)
 
 add-column-2 : tie.Need-add-column-2
-add-column-2 c = search needs
+add-column-2 c = omega (arith, c .before .before .before .before .before .before .pre .within, c .before .before .before .before .before .before .good .1 .1 .1 .0 .0)
 
 shared-slice-read-column-3 : tie.Need-shared-slice-read-column-3
-shared-slice-read-column-3 c = search needs
+shared-slice-read-column-3 c = omega (arith, c .before .before .before .before .before .before .before .pre .within)
 
 column-requires-3 : tie.Need-column-requires-3
-column-requires-3 c κs = search needs
+column-requires-3 c κs = c .before .before .before .before .before .before .before .pre .tables
 
 mul-column-2 : tie.Need-mul-column-2
-mul-column-2 c = search needs
+mul-column-2 c = omega (arith, c .before .before .before .before .before .before .before .before .pre .within, c .before .before .before .before .before .before .before .before .good .1 .1 .1 .0 .0)
 
 add-column-3 : tie.Need-add-column-3
-add-column-3 c = search needs
+add-column-3 c = omega (arith, c .before .before .before .before .before .before .before .before .pre .within, c .before .before .before .before .before .before .before .before .good .1 .1 .1 .0 .0)
 
 shared-slice-read-column-4 : tie.Need-shared-slice-read-column-4
-shared-slice-read-column-4 c = search needs
+shared-slice-read-column-4 c = omega (arith, c .before .before .before .before .before .before .before .before .before .pre .within)
 
 column-requires-4 : tie.Need-column-requires-4
-column-requires-4 c κs = search needs
+column-requires-4 c κs = c .before .before .before .before .before .before .before .before .before .pre .tables
 
 returns : tie.Need-returns
 returns c =

@@ -22,7 +22,7 @@ returns : tie.Need-returns
 returns c = c .deep-turn .ensures
 
 four-cells-requires : tie.Need-four-cells-requires
-four-cells-requires c κs = (c .before .before .before .before .before .pre, c .before .before .columns-at .ensures, c .before .all-below .ensures (not-false _ (c .if1 .left)))
+four-cells-requires c κs = (c .before .before .before .before .before .pre, c .before .before .columns-at .ensures, c .before .all-below .ensures .0 (not-false _ (c .if1 .left)))
 
 all-below-requires-2 : tie.Need-all-below-requires-2
 all-below-requires-2 c κs = search needs
@@ -31,7 +31,7 @@ returns-2 : tie.Need-returns-2
 returns-2 c =
     let a = c .before .before .before .before .before .before .before .before .args in
     let found = c .before .before .four-cells .ensures in
-    let below = c .before .all-below2 .ensures (c .if2 .taken) in
+    let below = c .before .all-below2 .ensures .0 (c .if2 .taken) in
     record {
       first = found-quick (a .t .now) (a .states) (a .dense) (a .from .first) (getD (a .part .now) (a .at) 0) _ (found .first) (below .first);
       second = found-quick (a .t .now) (a .states) (a .dense) (a .from .second) (getD (a .part .now) (a .at + a .quarter) 0) _ (found .second) (below .second);
