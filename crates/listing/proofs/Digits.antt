@@ -144,6 +144,11 @@ digits-only b bs h all =
 pub last-digit
     : (out : List ℕ) (at n : ℕ)
     → 10 ≤ n
-    → withBytes out at (digits n) ≡ set (withBytes out at (digits (n / 10))) (at + length (digits (n / 10))) (digit (n % 10))
+    → {last : ℕ} {out' : List ℕ}
+    → last ≡ at + length (digits (n / 10))
+    → out' ≡ withBytes out at (digits (n / 10))
+    → set out' last (digit (n % 10)) ≡ withBytes out at (digits n)
 unfolding withBytes
-last-digit out at n h = ap (withBytes out at) (digits-big n h) ∙ with-bytes-split out at (digits (n / 10)) (digit (n % 10) ∷ [])
+last-digit out at n h end written =
+    ap₂ (λ (l : List ℕ) (k : ℕ). set l k (digit (n % 10))) written end
+    ∙ sym (ap (withBytes out at) (digits-big n h) ∙ with-bytes-split out at (digits (n / 10)) (digit (n % 10) ∷ []))

@@ -82,6 +82,19 @@ one-shown {form = form} {numbers = numbers} {line = line} {end = end} {k = k} {i
       makes = sym (with-bytes-split line end now rest) ∙ ap (withBytes line end) (sym cut) ∙ f .makes;
     }
 
+-- So it is for the line, the end and the next number that one turn comes to.
+pub turn-shown
+    : {start form numbers line : List ℕ} {end k i : ℕ}
+    → Filling start form numbers line end k i
+    → i < length form
+    → {number end' k' : ℕ} {line' : List ℕ}
+    → number ≡ getD numbers k 0
+    → end' ≡ end + length (shown (getD form i 0) number)
+    → line' ≡ withBytes line end (shown (getD form i 0) number)
+    → k' ≡ nextAt form k i
+    → Filling start form numbers line' end' k' (i + 1)
+turn-shown f h number ends written next = rw (written, ends, next, number) (one-shown f h)
+
 -- What is shown next has room in the line.
 pub shown-room
     : {start form numbers line : List ℕ} {end k i : ℕ}

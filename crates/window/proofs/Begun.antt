@@ -1,6 +1,6 @@
 -- The first pieces wait one after the other; those that are no first pieces change nothing.
 -- Assumes nothing.
-use mathlib.Core.Path.{_≡_, refl, sym, ap, _∙_}
+use mathlib.Core.Path.{_≡_, refl, sym, ap, ap₂, _∙_}
 use mathlib.Core.Bool.{Bool, true, false, cond}
 use mathlib.Core.List.{List}
 use Prim.Native.Nat.{ℕ, zero, suc, _+_}
@@ -36,6 +36,11 @@ module _ (t m : List ℕ) (p : ℕ) where
 -- One turn: the next piece waits if it is a first one.
 pub firsts-turn : (t m₀ : List ℕ) (p : ℕ) {m m' : List ℕ} → m ≡ firstsWaiting t m₀ p → m' ≡ waitingIfFirst t m p → m' ≡ firstsWaiting t m₀ (p + 1)
 firsts-turn t m₀ p before turn = turn ∙ ap (λ (l : List ℕ). waitingIfFirst t l p) before ∙ sym (firsts-more t m₀ p)
+
+-- Once every piece that is looked at has had its turn, the windows have begun.
+pub firsts-begun : (t m : List ℕ) (n : ℕ) {zeroed m' : List ℕ} → zeroed ≡ cleared m → n ≡ lookedThrough t → m' ≡ firstsWaiting t zeroed n → m' ≡ windowsBegun t m
+unfolding windowsBegun
+firsts-begun t m n clear all e = e ∙ ap₂ (firstsWaiting t) clear all
 
 pub length-firsts : (t m : List ℕ) (n : ℕ) → length (firstsWaiting t m n) ≡ length m
 unfolding firstsWaiting

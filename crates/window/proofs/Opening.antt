@@ -12,7 +12,7 @@ use lib.Dec.{eqb}
 use lib.ListN.{length, getD, length-set}
 use borrow.Author.Tests.{eq-eqb, ne-eqb}
 use Rattle.counters.specs.Counters.{placeOf}
-use Rattle.lent.specs.Numbers.{Apart}
+use Rattle.lent.specs.Numbers.{Apart, withNumber}
 use Rattle.lent.specs.Zeros.{withZeros}
 use Rattle.lent.proofs.Numbers.{length-withNumber, number-byte-apart}
 use Rattle.lent.proofs.Zeros.{length-zeros}
@@ -39,6 +39,11 @@ module _ (span opened : ℕ) where
   pub closes-later : (span ≡ openSpan → ⊥) → closesAfter span opened ≡ opened + span
   unfolding closesAfter
   closes-later differ = rw (ne-eqb span openSpan differ)
+
+-- The closing place is the number of 8 bytes that is put at the place of the piece.
+pub closing-put : (m : List ℕ) (p closes v : ℕ) {m' : List ℕ} → v ≡ closes → m' ≡ withNumber 8 m (closingAt + 8 * p) v → m' ≡ withClosing m p closes
+unfolding withClosing
+closing-put m p closes v e put = put ∙ ap (withNumber 8 m (closingAt + 8 * p)) e
 
 -- A window is its closing place, so it is renewed where that is.
 pub renewed-is : (was window : Window) (newer : Place) → window .closes .0 ≡ replacedBy (was .closes .0) (newer .0) → window ≡ renewedTo was newer

@@ -1,15 +1,21 @@
 -- The form of an end line, filled with its three numbers, is that line. Assumes nothing.
+use mathlib.Core.Path.{ap, _∙_}
+use Prim.Native.Nat.{ℕ}
 use native.Mathlib.Omega.{arith}
 use borrow.Author.Needs.{needs}
 use Rattle.listing.specs.Forms.{filled}
 use Rattle.listing.specs.Lines.{endLine}
+use Rattle.listing.specs.Writing.{withLine}
 use Rattle.listing.proofs.Lengths.{end-line-most}
 use Rattle.listing.proofs.end_line.Statement.{statement}
 use Rattle.listing.proofs.end_line.Tie as tie
 
 returns : tie.Need-returns
 unfolding filled endLine
-returns c = cc
+returns c =
+    let a = c .before .before .before .before .before .before .before .before .args in
+    let taken = c .before .before .before .before .before .before .bytes .ensures in
+    c .before .before .put-line .ensures ∙ ap (λ (n : ℕ). withLine (a .out .now) (a .at) (endLine n (a .hits) (a .steps))) taken
 
 bytes-requires : tie.Need-bytes-requires
 bytes-requires c κs = search needs

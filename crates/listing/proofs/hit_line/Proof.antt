@@ -1,15 +1,22 @@
 -- The form of a hit line, filled with the place, the number and the rights code, is that line. Assumes nothing.
+use mathlib.Core.Path.{ap₂, _∙_}
+use Prim.Native.Nat.{ℕ}
 use native.Mathlib.Omega.{arith}
 use borrow.Author.Needs.{needs}
 use Rattle.listing.specs.Forms.{filled}
 use Rattle.listing.specs.Lines.{hitLine}
+use Rattle.listing.specs.Writing.{withLine}
 use Rattle.listing.proofs.Lengths.{hit-line-most}
 use Rattle.listing.proofs.hit_line.Statement.{statement}
 use Rattle.listing.proofs.hit_line.Tie as tie
 
 returns : tie.Need-returns
 unfolding filled hitLine
-returns c = cc
+returns c =
+    let a = c .before .before .before .before .before .before .before .before .before .before .args in
+    let place = c .before .before .before .before .before .before .before .before .bytes .ensures in
+    let number = c .before .before .before .before .before .before .pair64 .ensures .0 ∙ c .before .before .before .before .before .before .before .value .ensures in
+    c .before .before .put-line .ensures ∙ ap₂ (λ (p n : ℕ). withLine (a .out .now) (a .at) (hitLine p n (a .rights))) place number
 
 bytes-requires : tie.Need-bytes-requires
 bytes-requires c κs = search needs

@@ -1,5 +1,8 @@
 -- Two stores at the next two places are the two numbers of the report.
 -- Assumes nothing.
+use mathlib.Core.Path.{ap₂, _∙_}
+use mathlib.Core.List.{[], _∷_}
+use Prim.Native.Nat.{ℕ, _*_}
 use native.Mathlib.Omega.{arith}
 use lib.ListN.{length-set}
 use Rattle.lent.specs.Numbers.{withBytes}
@@ -49,7 +52,10 @@ same-length c = search needs
 
 returns : tie.Need-returns
 unfolding entries withBytes
-returns c = cc
+returns c =
+    let a = c .before .before .before .before .before .before .args in
+    let number = c .before .pair32 .ensures .0 ∙ c .before .before .value .ensures ∙ c .before .before .before .phrase-number .ensures in
+    ap₂ (λ (n e : ℕ). withBytes (a .room .now) (2 * a .written) (n ∷ e ∷ [])) number (c .bytes .ensures)
 
 pub put-report-spec : {M : Type 1} → statement M
 put-report-spec =

@@ -1,7 +1,9 @@
 -- The place that is read is that of the state, whose index is its number.
 -- Assumes nothing.
+use mathlib.Core.Path.{ap, _∙_}
 use native.Mathlib.Omega.{arith}
 use borrow.Author.Needs.{needs}
+use Rattle.lent.specs.Numbers.{numberAt}
 use Rattle.tables.proofs.children_end.Statement.{statement}
 use Rattle.tables.proofs.children_end.Tie as tie
 
@@ -24,7 +26,9 @@ pair-size-requires : tie.Need-pair-size-requires
 pair-size-requires c κs = search needs
 
 returns : tie.Need-returns
-returns c = (cc, omega arith)
+returns c =
+    let number = c .pair-size .ensures in
+    (number .0 ∙ c .before .get2 .ensures ∙ ap (numberAt 2 (c .before .before .before .before .args .t .now)) (omega arith), number .1)
 
 pub children-end-spec : {M : Type 1} → statement M
 children-end-spec =

@@ -1,6 +1,8 @@
 -- The place that is read is that of the state, whose index is its number.
 -- Assumes nothing.
+use mathlib.Core.Path.{ap}
 use borrow.Author.Needs.{needs}
+use Rattle.tables.specs.Reads.{depthIn}
 use Rattle.tables.proofs.depth.Statement.{statement}
 use Rattle.tables.proofs.depth.Tie as tie
 
@@ -14,7 +16,7 @@ shared-slice-read-result : tie.Need-shared-slice-read-result
 shared-slice-read-result c = search needs
 
 returns : tie.Need-returns
-returns c = cc
+returns c = ap (depthIn (c .before .before .before .args .t .now)) (c .before .index .ensures .0)
 
 pub depth-spec : {M : Type 1} → statement M
 depth-spec = tie.close (tie.spec index-requires add-result shared-slice-read-result returns)

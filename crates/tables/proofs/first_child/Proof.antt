@@ -1,7 +1,8 @@
 -- The place that is read is that of the state, whose index is its number.
 -- Assumes nothing.
-use native.Mathlib.Omega.{arith}
+use mathlib.Core.Path.{ap, _∙_}
 use borrow.Author.Needs.{needs}
+use Rattle.tables.specs.Reads.{firstChildIn}
 use Rattle.tables.proofs.first_child.Statement.{statement}
 use Rattle.tables.proofs.first_child.Tie as tie
 
@@ -21,7 +22,9 @@ pair-size-requires : tie.Need-pair-size-requires
 pair-size-requires c κs = search needs
 
 returns : tie.Need-returns
-returns c = (cc, omega arith)
+returns c =
+    let number = c .pair-size .ensures in
+    (number .0 ∙ c .before .get2 .ensures ∙ ap (firstChildIn (c .before .before .before .before .args .t .now)) (c .before .before .index .ensures .0), number .1)
 
 pub first-child-spec : {M : Type 1} → statement M
 first-child-spec =

@@ -1,7 +1,8 @@
 -- The place that is read is that of the state, whose index is its number.
 -- Assumes nothing.
-use native.Mathlib.Omega.{arith}
+use mathlib.Core.Path.{ap, _∙_}
 use borrow.Author.Needs.{needs}
+use Rattle.tables.specs.Reads.{outIn}
 use Rattle.tables.proofs.out.Statement.{statement}
 use Rattle.tables.proofs.out.Tie as tie
 
@@ -18,7 +19,9 @@ wide-size-requires : tie.Need-wide-size-requires
 wide-size-requires c κs = search needs
 
 returns : tie.Need-returns
-returns c = (cc, omega arith)
+returns c =
+    let piece = c .wide-size .ensures in
+    (piece .0 ∙ ap (outIn (c .before .before .before .before .args .t .now)) (c .before .before .index .ensures .0), piece .1)
 
 pub out-spec : {M : Type 1} → statement M
 out-spec =

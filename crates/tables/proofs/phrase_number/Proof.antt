@@ -1,6 +1,8 @@
 -- The place that is read is that of the phrase, whose index is its rank.
 -- Assumes nothing.
+use mathlib.Core.Path.{ap, _∙_}
 use borrow.Author.Needs.{needs}
+use Rattle.tables.specs.Reads.{phraseNumberIn}
 use Rattle.tables.proofs.phrase_number.Statement.{statement}
 use Rattle.tables.proofs.phrase_number.Tie as tie
 
@@ -20,7 +22,7 @@ of-requires : tie.Need-of-requires
 of-requires c κs = search needs
 
 returns : tie.Need-returns
-returns c = cc
+returns c = c .of .ensures ∙ c .before .get2 .ensures ∙ ap (phraseNumberIn (c .before .before .before .before .args .t .now)) (c .before .before .index .ensures .0)
 
 pub phrase-number-spec : {M : Type 1} → statement M
 phrase-number-spec =

@@ -1,6 +1,8 @@
 -- The place that is read is that of the phrase, whose index is its rank.
 -- Assumes nothing.
+use mathlib.Core.Path.{ap}
 use borrow.Author.Needs.{needs}
+use Rattle.tables.specs.Reads.{phraseRightsIn}
 use Rattle.tables.proofs.phrase_rights.Statement.{statement}
 use Rattle.tables.proofs.phrase_rights.Tie as tie
 
@@ -20,7 +22,7 @@ shared-slice-read-result : tie.Need-shared-slice-read-result
 shared-slice-read-result c = search needs
 
 returns : tie.Need-returns
-returns c = cc
+returns c = ap (phraseRightsIn (c .before .before .before .args .t .now)) (c .before .index .ensures .0)
 
 pub phrase-rights-spec : {M : Type 1} → statement M
 phrase-rights-spec =

@@ -32,7 +32,8 @@ returns-2 : (t : ℕ) → lts.Need-returns-2 (below t, reads.Post) (at t) reads.
 returns-2 t c =
     let a = c .before .before .before .before .before .before .args in
     let h : 10 ≤ a .n = omega arith in
-    (omega (arith, length-big (a .n) h), cc (last-digit (a .out .now) (a .at) (a .n) h))
+    let written = c .before .before .write-number .ensures in
+    (omega (arith, length-big (a .n) h), last-digit (a .out .now) (a .at) (a .n) h (written .0) (written .1))
 
 cast-out : (t : ℕ) → lts.Need-cast-out (below t, reads.Post) (at t) reads.Post
 cast-out t c = omega arith

@@ -6,7 +6,7 @@ use native.Mathlib.Omega.{arith}
 use borrow.Author.Needs.{needs}
 use lib.ListN.{length}
 use Rattle.listing.specs.Forms.{shown}
-use Rattle.listing.proofs.Filling.{Filling, one-shown, shown-room, all-shown}
+use Rattle.listing.proofs.Filling.{Filling, turn-shown, shown-room, all-shown}
 use Rattle.listing.proofs.forms.fill.Statement.{statement}
 use Rattle.listing.proofs.forms.fill.Tie as tie
 
@@ -47,7 +47,7 @@ loop-again c =
     let turn = c .before .before .before .before .before .before .before .before .before .loop in
     let shown = c .before .before .before .before .show .ensures in
     let number = c .before .before .before .before .before .number-at .ensures in
-    rw (shown .1, shown .0, c .next-number .ensures, number) (one-shown (turn .inv) (omega arith))
+    turn-shown (turn .inv) (omega arith) number (shown .0) (shown .1) (c .next-number .ensures)
 
 same-length : tie.Need-same-length Inv-loop μ-loop
 same-length c = omega arith

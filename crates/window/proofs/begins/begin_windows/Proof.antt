@@ -5,8 +5,8 @@ use mathlib.Core.Path.{_≡_, refl}
 use Prim.Native.Nat.{_≤_, _-_}
 use lib.ListN.{length}
 use Rattle.running.specs.Layout.{runningSize}
-use Rattle.window.specs.Begun.{firstsWaiting, windowsBegun}
-use Rattle.window.proofs.Begun.{firsts-turn}
+use Rattle.window.specs.Begun.{firstsWaiting}
+use Rattle.window.proofs.Begun.{firsts-turn, firsts-begun}
 use Rattle.window.proofs.begins.begin_windows.Statement.{statement}
 use Rattle.window.proofs.begins.begin_windows.Tie as tie
 
@@ -45,10 +45,10 @@ same-length : tie.Need-same-length Inv-loop μ-loop
 same-length c = omega arith
 
 returns : tie.Need-returns Inv-loop μ-loop
-unfolding windowsBegun runningSize
+unfolding runningSize
 returns c =
     let done : c .before .loop .piece ≡ c .before .before .piece-count .result = omega arith in
-    cc
+    firsts-begun _ _ (c .before .loop .piece) (c .before .before .before .before .before .clear .ensures) (omega arith) (c .before .loop .inv .1)
 
 pub begin-windows-spec : {M : Type 1} → statement M
 begin-windows-spec =

@@ -1,7 +1,7 @@
 -- The closing place is one number of 8 bytes, at the place of the piece.
 -- Assumes nothing.
 use native.Mathlib.Omega.{arith}
-use Rattle.window.specs.Opening.{withClosing}
+use Rattle.window.proofs.Opening.{closing-put}
 use Rattle.window.proofs.opens.put_window.Statement.{statement}
 use Rattle.window.proofs.opens.put_window.Tie as tie
 
@@ -21,8 +21,7 @@ same-length : tie.Need-same-length
 same-length c = omega arith
 
 returns : tie.Need-returns
-unfolding withClosing
-returns c = cc
+returns c = closing-put _ _ _ _ (c .before .before .before .bytes .ensures) (c .before .before .put8 .ensures)
 
 pub put-window-spec : {M : Type 1} → statement M
 put-window-spec =

@@ -2,7 +2,7 @@
 -- Assumes nothing.
 use native.Mathlib.Omega.{arith}
 use lib.ListN.{length-set}
-use Rattle.window.specs.Waiting.{withWaiting, withWaitingFrom}
+use Rattle.window.proofs.Waiting.{waiting-stored}
 use Rattle.window.proofs.waits.wait_from.Statement.{statement}
 use Rattle.window.proofs.waits.wait_from.Tie as tie
 
@@ -43,11 +43,10 @@ slice-write-m-2 : tie.Need-slice-write-m-2
 slice-write-m-2 c = simp length-set (omega arith)
 
 same-length : tie.Need-same-length
-same-length c = simp length-set (omega arith)
+same-length c = simp length-set
 
 returns : tie.Need-returns
-unfolding withWaiting withWaitingFrom
-returns c = cc
+returns c = waiting-stored _ _ _ _ (c .before .before .slot-of .result) _ (omega arith) (c .with8 .ensures)
 
 pub wait-from-spec : {M : Type 1} → statement M
 wait-from-spec =
