@@ -18,6 +18,12 @@ unfolding markFrom
 mark-small [] m l = l
 mark-small (b ∷ rest) m l = mark-small rest _ (omega arith)
 
+-- Five numbers stored one after the other: three of 2 bytes, then two of 8.
+pub five-stored : (t t₁ t₂ t₃ t₄ t₅ : List ℕ) (a b c d e u v w x y : ℕ) → t₁ ≡ withNumber 2 t a u → t₂ ≡ withNumber 2 t₁ b v → t₃ ≡ withNumber 2 t₂ c w
+    → t₄ ≡ withNumber 8 t₃ d x → t₅ ≡ withNumber 8 t₄ e y
+    → t₅ ≡ withNumber 8 (withNumber 8 (withNumber 2 (withNumber 2 (withNumber 2 t a u) b v) c w) d x) e y
+five-stored t t₁ t₂ t₃ t₄ t₅ a b c d e u v w x y first second third fourth fifth = rw (fifth, fourth, third, second, first)
+
 module _ (states pieces phrases mark : ℕ) (t : List ℕ) where
   abbrev headed : List ℕ
   headed = withHeader states pieces phrases mark t

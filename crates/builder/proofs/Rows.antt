@@ -19,7 +19,7 @@ use Rattle.tables.specs.Reads.{Whole, denseIn, columnIn, infoIn, depthIn}
 use Rattle.tables.proofs.Fits.{fits}
 use Rattle.stepping.specs.Held.{HoldsStates, HoldsFailures}
 use Rattle.stepping.proofs.Kept.{states-kept, failures-kept}
-use Rattle.columns.specs.Columns.{columned}
+use Rattle.columns.specs.Columns.{denseFor, columned}
 use Rattle.columns.specs.Right as columns
 use Rattle.columns.proofs.Right.{dense-right, columned-right}
 use Rattle.cells.specs.Cells.{withRows}
@@ -29,6 +29,12 @@ use Rattle.depths.specs.Depths as depths
 use Rattle.depths.specs.Right as depths-right
 use Rattle.depths.proofs.Right.{filled-right}
 use Rattle.builder.specs.Passes.{rowsBy}
+
+-- Columns, rows and depths, filled in one after the other, are those of the definition.
+pub rows-stored : (t t₁ t₂ t₃ : List ℕ) (states dense : ℕ) → dense ≡ denseFor t states → t₁ ≡ columned t states → t₂ ≡ withRows t₁ states dense byteValues
+    → t₃ ≡ depths.filled t₂ states → t₃ ≡ rowsBy states t
+unfolding rowsBy
+rows-stored t t₁ t₂ t₃ states dense first columns rows last = rw (last, rows, columns, first)
 
 -- What the endings leave: states, failures and the marks of the infos are the book's, and depths and rows are zero.
 pub record RowsReady (book : Book) (t : List ℕ) : Type 0 where

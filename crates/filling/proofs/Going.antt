@@ -24,17 +24,24 @@ use Rattle.filling.specs.Turns.{Progress, begun, withTurn, afterTurns, n
 use Rattle.filling.proofs.Given.{bookWith, keywords-with, given-bytes}
 use Rattle.filling.proofs.Numbered.{after-holds}
 
--- Past the last numbered state there is no turn.
-pub after-end : (text offsets lengths : List ℕ) (many : ℕ) (tables : List ℕ) (i j : ℕ) → i ≤ j → afterTurns text offsets lengths many tables i .states ≤ i
-    → afterTurns text offsets lengths many tables j ≡ afterTurns text offsets lengths many tables i
-unfolding afterTurns
-after-end text offsets lengths many tables i zero h l = let e : i ≡ 0 = omega arith in rw e refl
-after-end text offsets lengths many tables i (suc j) h l = ⊎-elim
-    (λ (k : i ≤ j).
-    let e : afterTurns text offsets lengths many tables j ≡ afterTurns text offsets lengths many tables i = after-end text offsets lengths many tables i j k l in
-    rw (le-ltb j (afterTurns text offsets lengths many tables j .states) (omega (arith, ap (λ (p : Progress). p .states) e))) e)
-    (λ (e : i ≡ suc j). rw e refl)
-    (le-suc-iff .0 h)
+module _ (text offsets lengths : List ℕ) (many : ℕ) (tables : List ℕ) where
+  abbrev taken : ℕ → Progress
+  taken i = afterTurns text offsets lengths many tables i
+
+  -- A number that no state has gets no turn,
+  no-turn : (j : ℕ) → taken j .states ≤ j → taken (suc j) ≡ taken j
+  unfolding afterTurns
+  no-turn j h = rw (le-ltb j (taken j .states) h)
+
+  -- so that past the last numbered state there is none.
+  pub after-end : (i j : ℕ) → i ≤ j → taken i .states ≤ i → taken j ≡ taken i
+  after-end i zero h l = ap taken (omega arith)
+  after-end i (suc j) h l = ⊎-elim
+      (λ (k : i ≤ j).
+      let e : taken j ≡ taken i = after-end i j k l in
+      no-turn j (omega (arith, ap (λ (p : Progress). p .states) e)) ∙ e)
+      (λ (e : i ≡ suc j). ap taken (sym e))
+      (le-suc-iff .0 h)
 
 -- A book with the keywords that are given.
 abbrev pub given : List ℕ → List ℕ → List ℕ → ℕ → Book

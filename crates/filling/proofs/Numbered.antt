@@ -138,10 +138,17 @@ module _ (text offsets lengths : List ℕ) (many : ℕ) (book : Book) (gives : G
         (held-first text tables (firstChild book) i (list i) p held size (turn-room i) (omega (arith, room)) (held .states)) byteValues
         (omega (arith, turn-room (suc i), ap length turn, length-append (list i) (children (isState book) byteValues u))))
 
+    begun-holds : Holds 0 (list 0) (after 0)
+    unfolding afterTurns listed
+    begun-holds = held-begun text tables (firstChild book)
+
+    turned : (i : ℕ) → i < after i .states → after (suc i) ≡ withTurn text offsets lengths many i (after i)
+    unfolding afterTurns
+    turned i h = rw (lt-ltb i (after i .states) h)
+
     -- After so many turns the states are numbered that the list has after as many.
     pub after-holds : (i : ℕ) → i ≤ stateCount book → Holds i (list i) (after i)
-    unfolding afterTurns listed
-    after-holds zero l = held-begun text tables (firstChild book)
+    after-holds zero l = begun-holds
     after-holds (suc i) l =
         let held : Holds i (list i) (after i) = after-holds i (omega arith) in
-        rw (lt-ltb i (after i .states) (omega (arith, held .states, in-time i l))) (turn-holds i l (after i) held)
+        rw (turned i (omega (arith, held .states, in-time i l))) (turn-holds i l (after i) held)

@@ -1,6 +1,6 @@
 -- One child and one turn at a time; a child that gets a number raises the count, so room for all is room for each.
 -- Assumes nothing.
-use mathlib.Core.Path.{_≡_, refl, ap, ap₂}
+use mathlib.Core.Path.{_≡_, refl, ap, ap₂, _∙_}
 use mathlib.Core.Logic.{⊎-elim}
 use mathlib.Core.List.{List}
 use Prim.Native.Nat.{ℕ, zero, suc, _+_, _-_, _≤_, _<_}
@@ -73,6 +73,10 @@ module _ (text offsets lengths : List ℕ) (keywords i : ℕ) (p : Progress) (wr
   turn-is =
       let s : state ≡ stretch (getD (p .begins) i 0) (getD (p .counts) i 0) = ap₂ {C = Stretch} stretch begins counts in
       rw (goes-on, s, first)
+
+  pub turn-taken : {after : Progress} → after ≡ withChildren (getD (p .counts) i 0 + 1) onward byteValues (progress written (p .begins) (p .counts) (p .states))
+      → after ≡ withTurn text offsets lengths keywords i p
+  turn-taken numbered = numbered ∙ turn-is
 
   -- Room for all after the turn is room for its children.
   pub turn-room : (room : ℕ) → withTurn text offsets lengths keywords i p .states ≤ room

@@ -104,3 +104,10 @@ with-number-parts m n s i v =
     ∙ ap (withBytes s i) (low-bytes-split m n low high (mod-lt v (one-le-pow m 256 (lit< tt))))
     ∙ with-bytes-split s i (lowBytes m low) (lowBytes n high)
     ∙ ap (λ (l : ℕ). withBytes (withBytes s i (lowBytes m low)) (i + l) (lowBytes n high)) (length-lowBytes m low)
+
+-- The low part stored, and the high part stored behind it, are the whole number stored.
+pub parts-stored
+    : (m n : ℕ) (s s₁ s₂ : List ℕ) (i v : ℕ)
+    → s₁ ≡ withNumber m s i (v % 256 ^ m) → s₂ ≡ withNumber n s₁ (i + m) (v / 256 ^ m) → s₂ ≡ withNumber (m + n) s i v
+parts-stored m n s s₁ s₂ i v low high =
+    high ∙ ap (λ (t : List ℕ). withNumber n t (i + m) (v / 256 ^ m)) low ∙ sym (with-number-parts m n s i v)

@@ -1,6 +1,6 @@
 -- Bytes that are made zero are zero, and no other byte changes: each store changes one element.
 -- Assumes nothing.
-use mathlib.Core.Path.{_≡_, refl, _∙_}
+use mathlib.Core.Path.{_≡_, refl, sym, ap, _∙_}
 use mathlib.Core.Logic.{_⊎_, inl, inr, ⊎-elim}
 use mathlib.Core.List.{List, [], _∷_}
 use Prim.Native.Nat.{ℕ, zero, suc, _+_, _≤_, _<_}
@@ -17,6 +17,9 @@ module _ (s : List ℕ) (i : ℕ) where
   pub zeros-more : (n : ℕ) → withZeros s i (n + 1) ≡ set (withZeros s i n) (i + n) 0
   unfolding withZeros
   zeros-more n = rw add-one
+
+  pub zeros-stored : (n : ℕ) {t : List ℕ} → t ≡ withZeros s i n → set t (i + n) 0 ≡ withZeros s i (n + 1)
+  zeros-stored n e = ap (λ (t : List ℕ). set t (i + n) 0) e ∙ sym (zeros-more n)
 
   pub length-zeros : (n : ℕ) → length (withZeros s i n) ≡ length s
   unfolding withZeros

@@ -8,15 +8,18 @@ use native.Mathlib.Omega.{arith}
 use lib.ListN.{length}
 use borrow.Author.Tests.{lt-ltb, le-ltb}
 use Rattle.meaning.specs.Calls.{largestPlace}
-use Rattle.tables.specs.Reads.{phraseCountIn}
+use Rattle.lent.specs.Numbers.{withNumber}
+use Rattle.tables.specs.Reads.{phraseCountIn, markIn}
 use Rattle.tables.specs.Passing.{tablesPass}
 use Rattle.tables.proofs.Passing as tables
-use Rattle.tracking.specs.Head.{begunWith}
+use Rattle.running.specs.Layout.{tagAt, stateAt, placeAt, markAt, runningTag}
+use Rattle.window.specs.Begun.{windowsBegun}
+use Rattle.tracking.specs.Head.{begunWith, movedTo}
 use Rattle.feeding.specs.declared.Progress.{Progress}
 use Rattle.feeding.specs.Taken.{atStart, runOf, partTaken, stepsSince}
 use Rattle.feeding.specs.Ready.{Ready}
 use Rattle.scanner.specs.Passing.{stateHeld, placeHeld, tooSmall, runningPass}
-use Rattle.scanner.specs.Exact.{begunWell, beginOf, answerAfter, memoryAfter, tookFrom, feedOf}
+use Rattle.scanner.specs.Exact.{begunWell, beginOf, answerAfter, memoryAfter, tookFrom, FeedEnd, feedOf}
 use Rattle.scanner.specs.declared.Begun.the-variants as begun
 use Rattle.scanner.specs.declared.Fed.the-variants as fed
 use Rattle.scanner.proofs.Passing.{whole, passed}
@@ -34,6 +37,26 @@ module _ (t m : List ℕ) where
   unfolding beginOf
   begin-done e p = rw (e, p)
 
+-- The windows, the mark and the tag, stored one after the other, are begun memory.
+pub begun-stored : (t m m₁ m₂ m₃ : List ℕ) (mark : ℕ)
+    → m₁ ≡ windowsBegun t m
+    → mark ≡ markIn t
+    → m₂ ≡ withNumber 8 m₁ markAt mark
+    → m₃ ≡ withNumber 8 m₂ tagAt runningTag
+    → m₃ ≡ begunWith t m
+unfolding begunWith
+begun-stored t m m₁ m₂ m₃ mark windows read marked tagged = rw (tagged, marked, read, windows)
+
+-- State and place, stored one after the other, are the memory moved to them.
+pub moved-stored : (m m₁ m₂ : List ℕ) (state place number bytes : ℕ)
+    → number ≡ state
+    → m₁ ≡ withNumber 2 m stateAt number
+    → bytes ≡ place
+    → m₂ ≡ withNumber 8 m₁ placeAt bytes
+    → m₂ ≡ movedTo m state place
+unfolding movedTo
+moved-stored m m₁ m₂ state place number bytes p stored q then = rw (then, stored, p, q)
+
 -- What the code carries along, written down, is what was taken.
 pub took-from : (t m part room : List ℕ) (state place : ℕ) (progress : Progress) (m₁ room₁ m₂ : List ℕ) (steps : ℕ)
     → runOf progress m₁ room₁ ≡ partTaken t (length room / 2) part (atStart state place m room)
@@ -42,6 +65,10 @@ pub took-from : (t m part room : List ℕ) (state place : ℕ) (progress : Progr
     → record { answer = answerAfter steps (runOf progress m₁ room₁); memory = m₂; room = room₁ } ≡ tookFrom t m part room state place
 unfolding tookFrom
 took-from t m part room state place progress m₁ room₁ m₂ steps run moved counted = rw (← run, moved, counted)
+
+-- A part that fits by the numbers that were read fits.
+pub fits : (size bytes place part held : ℕ) → size ≡ part → bytes ≡ place → place ≡ held → size ≤ largestPlace - bytes → part ≤ largestPlace - held
+fits size bytes place part held p q r h = omega arith
 
 module _ (t m part room : List ℕ) where
   pub feed-small : tooSmall t m ≡ true → feedOf t m part room ≡ record { answer = fed.TooSmall; memory = m; room = room }
@@ -72,6 +99,10 @@ module _ (t m part room : List ℕ) where
             pub feed-takes : feedOf t m part room ≡ tookFrom t m part room (stateHeld m) (placeHeld m)
             unfolding feedOf
             feed-takes = rw (large, tables-pass, running-pass, le-ltb (length room / 2) (phraseCountIn t) roomy, le-ltb (largestPlace - placeHeld m) (length part) short)
+
+            -- What is taken from a state and a place that were read from the memory is what feed comes to.
+            pub feed-took : (state place : ℕ) → state ≡ stateHeld m → place ≡ placeHeld m → (end : FeedEnd) → end ≡ tookFrom t m part room state place → end ≡ feedOf t m part room
+            feed-took state place p q end took = rw (took, p, q, feed-takes)
 
             -- Then all holds that the taking of bytes wants.
             pub feed-ready : (state place : ℕ) → state ≡ stateHeld m → place ≡ placeHeld m → Ready t m (length part) state place

@@ -5,7 +5,8 @@ use mathlib.Core.List.{List}
 use Prim.Native.Nat.{ℕ, _+_, _≤_, _<_}
 use native.Mathlib.Omega.{arith}
 use lib.Dec.{ltb}
-use lib.ListN.{length}
+use lib.ListN.{length, set}
+use borrow.Author.Tests.{lt-ltb, le-ltb}
 use Rattle.tables.specs.Layout.{roomForPieces, roomForPhrases}
 use Rattle.book.specs.declared.records.Found.{Found}
 use Rattle.book.specs.declared.records.Found.the-variants.{Header, Phrase, Bounded, Open, Keyword, End, Refused}
@@ -13,8 +14,14 @@ use Rattle.book.specs.Records.{readAt}
 use Rattle.book.specs.Prefixes.{spanOf}
 use Rattle.book.proofs.Shared.{span-ahead, span-inside}
 use Rattle.counters.specs.declared.Number.{Number}
+use Rattle.counters.specs.declared.Rank.{Rank}
+use Rattle.counters.specs.Counters.{rankOf}
+use Rattle.survey.specs.declared.entries.Entry.{Entry}
+use Rattle.survey.specs.declared.progress.Progress.{Progress}
 use Rattle.survey.specs.declared.turns.Word.{Word}
-use Rattle.survey.specs.Turns.{Reading, phraseTurn, entryFor, keywordTurn, turnFor, turnAt}
+use Rattle.survey.specs.Progress.{movedTo, afterName, afterPiece}
+use Rattle.survey.specs.Entries.{withPhrase, withPiece}
+use Rattle.survey.specs.Turns.{noted, Reading, reading, phraseTurn, entryFor, keywordTurn, turnFor, turnAt}
 use Rattle.survey.proofs.Stored.{length-withPhrase, length-withPiece}
 use Rattle.survey.proofs.Found.{Short, read-short}
 
@@ -25,6 +32,10 @@ module _ (bytes : List ℕ) (now : Reading) {found told : Found} (is : found ≡
   unfolding turnAt
   turn-told = ap (turnFor bytes now) (sym tells ∙ is)
 
+  -- What a record leaves is what the turn leaves.
+  pub turned : {after : Reading} → after ≡ turnFor bytes now told → after ≡ turnAt bytes now
+  turned left = left ∙ turn-told
+
   -- A keyword lies in the book,
   pub inside-told : spanOf 0 told .start + spanOf 0 told .count ≤ length bytes
   inside-told = span-inside bytes (now .progress .at) 0 (spanOf 0 told) (ap (spanOf 0) (sym tells ∙ is))
@@ -32,6 +43,35 @@ module _ (bytes : List ℕ) (now : Reading) {found told : Found} (is : found ≡
   -- and is short.
   pub short-told : Short told
   short-told = subst Short (sym is ∙ tells) (read-short bytes (now .progress .at))
+
+-- ── What the code stored ──
+
+-- The entry of the phrase, and the progress behind its record, are the turn of a phrase.
+pub phrase-stored : (tables offsets lengths : List ℕ) (progress : Progress) (number : Number) (rights next : ℕ) {stored : List ℕ} {rank : Rank} {onward : Progress}
+    → progress .phrases < roomForPhrases
+    → stored ≡ withPhrase (rank .0) (number .0) rights tables
+    → onward ≡ afterName rank next progress
+    → rank ≡ rankOf (progress .phrases)
+    → reading onward (noted stored offsets lengths) ≡ phraseTurn number rights next (reading progress (noted tables offsets lengths))
+unfolding phraseTurn
+phrase-stored tables offsets lengths progress number rights next few put is ranked = rw (lt-ltb (progress .phrases) roomForPhrases few, is, put, ranked)
+
+module _ (bytes tables offsets lengths : List ℕ) (progress : Progress) where
+  -- Where there is no room, only the progress moves on.
+  pub keyword-full : (word : Word) {onward : Progress} → roomForPieces ≤ progress .pieces → onward ≡ movedTo (word .next) progress
+      → reading onward (noted tables offsets lengths) ≡ keywordTurn bytes word (reading progress (noted tables offsets lengths))
+  unfolding keywordTurn
+  keyword-full word full is = rw (le-ltb (progress .pieces) roomForPieces full, is)
+
+  -- The entry of the piece, the keyword noted, and the progress behind it are the turn of a keyword.
+  pub keyword-stored : (word : Word) {stored : List ℕ} {entry : Entry} {onward : Progress} → progress .pieces < roomForPieces
+      → stored ≡ withPiece (progress .pieces) entry tables
+      → onward ≡ afterPiece (word .next) progress
+      → entry ≡ entryFor bytes progress word
+      → reading onward (noted stored (set offsets (progress .pieces) (word .start)) (set lengths (progress .pieces) (word .count)))
+      ≡ keywordTurn bytes word (reading progress (noted tables offsets lengths))
+  unfolding keywordTurn
+  keyword-stored word few put is entered = rw (lt-ltb (progress .pieces) roomForPieces few, is, put, entered)
 
 -- ── Where the turn goes on ──
 

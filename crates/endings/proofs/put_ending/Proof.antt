@@ -1,5 +1,7 @@
 -- The two stores are those of the definition, at the index of the state.
 -- Assumes nothing.
+use mathlib.Core.Path.{ap}
+use Prim.Native.Nat.{ℕ}
 use native.Mathlib.Omega.{arith}
 use lib.ListN.{length-set}
 use Rattle.endings.specs.Filled.{withEnding}
@@ -27,7 +29,9 @@ same-length c = search needs
 
 returns : tie.Need-returns
 unfolding withEnding
-returns c = cc
+returns c =
+    let a = c .before .before .args in
+    ap (λ (i : ℕ). withEnding (a .t .now) i (a .out) (a .info)) (c .index .ensures .0)
 
 pub put-ending-spec : {M : Type 1} → statement M
 put-ending-spec =

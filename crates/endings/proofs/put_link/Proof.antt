@@ -25,7 +25,7 @@ same-length c = search needs
 
 returns : tie.Need-returns
 unfolding withLink
-returns c = cc
+returns c = c .before .before .put2 .ensures
 
 pub put-link-spec : {M : Type 1} → statement M
 put-link-spec =

@@ -1,11 +1,11 @@
 -- Each turn makes one more byte zero. The measure is how many are left.
 -- Assumes nothing.
 use native.Mathlib.Omega.{arith}
-use mathlib.Core.Path.{_≡_, refl}
+use mathlib.Core.Path.{_≡_, refl, ap, _∙_}
 use Prim.Native.Nat.{_≤_, _-_}
 use lib.ListN.{length, length-set}
 use Rattle.lent.specs.Zeros.{withZeros}
-use Rattle.lent.proofs.Zeros.{zeros-more}
+use Rattle.lent.proofs.Zeros.{zeros-stored}
 use Rattle.lent.proofs.clear.Statement.{statement}
 use Rattle.lent.proofs.clear.Tie as tie
 
@@ -35,15 +35,16 @@ loop-again : tie.Need-loop-again Inv-loop μ-loop
 loop-again c =
     let at = c .before in
     let a = at .before .args in
-    (omega arith, cc (zeros-more (a .s .now) (a .at) (at .loop .i)), simp length-set (omega arith))
+    (omega arith, zeros-stored (a .s .now) (a .at) (at .loop .i) (at .loop .inv .1), simp length-set (omega arith))
 
 same-length : tie.Need-same-length Inv-loop μ-loop
 same-length c = omega arith
 
 returns : tie.Need-returns Inv-loop μ-loop
 returns c =
-    let done : c .before .loop .i ≡ c .before .before .args .count = omega arith in
-    cc
+    let a = c .before .before .args in
+    let done : c .before .loop .i ≡ a .count = omega arith in
+    c .before .loop .inv .1 ∙ ap (withZeros (a .s .now) (a .at)) done
 
 pub clear-spec : {M : Type 1} → statement M
 clear-spec =

@@ -1,14 +1,17 @@
 -- Each return is one case of the definition, in the order of the refusals, and all that is promised follows from it.
 -- Assumes nothing.
-use mathlib.Core.Path.{_≡_, sym, ap₂, _∙_}
+use mathlib.Core.Path.{_≡_, sym, subst, _∙_}
 use mathlib.Core.Bool.{true, false}
+use Prim.Native.Nat.{ℕ, _-_, _/_, _≤_}
 use native.Mathlib.Omega.{arith}
+use lib.ListN.{length}
 use borrow.Author.Tests.{not-true, not-false}
+use Rattle.meaning.specs.Calls.{largestPlace}
+use Rattle.tables.specs.Reads.{phraseCountIn}
 use Rattle.tables.specs.Passing.{tablesPass}
-use Rattle.scanner.specs.Passing.{tooSmall, runningPass}
-use Rattle.scanner.specs.Exact.{tookFrom}
+use Rattle.scanner.specs.Passing.{placeHeld, tooSmall, runningPass}
 use Rattle.scanner.proofs.Passing.{whole, passed}
-use Rattle.scanner.proofs.Cases.{feed-small, feed-not-tables, feed-not-running, feed-no-room, feed-too-long, feed-takes, feed-ready}
+use Rattle.scanner.proofs.Cases.{feed-small, feed-not-tables, feed-not-running, feed-no-room, feed-too-long, feed-took, feed-ready, fits}
 use Rattle.scanner.proofs.Feeds.{feed-promised}
 use borrow.Author.Needs.{needs}
 use Rattle.scanner.proofs.feed.Statement.{statement}
@@ -94,7 +97,8 @@ returns-5 c =
     let is-large : tooSmall (a .tables .now) (a .running .now) ≡ false = sym (c .before .before .before .before .before .before .before .before .before .before .before .before .before .too-small .ensures) ∙ c .before .before .before .before .before .before .before .before .before .before .before .before .if1 .left in
     let tables-pass : tablesPass (a .tables .now) ≡ true = sym (c .before .before .before .before .before .before .before .before .before .before .before .passes .ensures) ∙ not-false (c .before .before .before .before .before .before .before .before .before .before .before .passes .result) (c .before .before .before .before .before .before .before .before .before .before .if2 .left) in
     let running-pass : runningPass (a .tables .now) (a .running .now) ≡ true = sym (c .before .before .before .before .before .before .before .before .running-passes .ensures) ∙ not-false (c .before .before .before .before .before .before .before .before .running-passes .result) (c .before .before .before .before .before .before .before .if3 .left) in
-    feed-promised (a .tables .now) (a .running .now) (a .part .now) (a .room .now) _ (sym (feed-too-long (a .tables .now) (a .running .now) (a .part .now) (a .room .now) is-large tables-pass running-pass (omega arith) (omega arith)))
+    let roomy : phraseCountIn (a .tables .now) ≤ length (a .room .now) / 2 = subst (λ (n : ℕ). n ≤ length (a .room .now) / 2) (c .before .before .before .before .before .before .phrase-count .ensures .0) (c .before .before .before .before .before .if4 .left) in
+    feed-promised (a .tables .now) (a .running .now) (a .part .now) (a .room .now) _ (sym (feed-too-long (a .tables .now) (a .running .now) (a .part .now) (a .room .now) is-large tables-pass running-pass roomy (omega arith)))
 
 state-of-requires : tie.Need-state-of-requires
 state-of-requires c κs =
@@ -108,13 +112,15 @@ take-part-requires c κs =
     let is-large : tooSmall (a .tables .now) (a .running .now) ≡ false = sym (c .before .before .before .before .before .before .before .before .before .before .before .before .before .before .before .before .before .too-small .ensures) ∙ c .before .before .before .before .before .before .before .before .before .before .before .before .before .before .before .before .if1 .left in
     let tables-pass : tablesPass (a .tables .now) ≡ true = sym (c .before .before .before .before .before .before .before .before .before .before .before .before .before .before .before .passes .ensures) ∙ not-false (c .before .before .before .before .before .before .before .before .before .before .before .before .before .before .before .passes .result) (c .before .before .before .before .before .before .before .before .before .before .before .before .before .before .if2 .left) in
     let running-pass : runningPass (a .tables .now) (a .running .now) ≡ true = sym (c .before .before .before .before .before .before .before .before .before .before .before .before .running-passes .ensures) ∙ not-false (c .before .before .before .before .before .before .before .before .before .before .before .before .running-passes .result) (c .before .before .before .before .before .before .before .before .before .before .before .if3 .left) in
-    feed-ready (a .tables .now) (a .running .now) (a .part .now) (a .room .now) is-large tables-pass running-pass (omega arith) (omega arith) _ _ (c .before .before .state-of .ensures) (c .before .before .before .before .before .before .before .place-of .ensures)
+    let roomy : phraseCountIn (a .tables .now) ≤ length (a .room .now) / 2 = subst (λ (n : ℕ). n ≤ length (a .room .now) / 2) (c .before .before .before .before .before .before .before .before .before .before .phrase-count .ensures .0) (c .before .before .before .before .before .before .before .before .before .if4 .left) in
+    let short : length (a .part .now) ≤ largestPlace - placeHeld (a .running .now) = fits _ _ _ _ _ (c .before .before .before .before .before .size64 .ensures) (c .before .before .before .before .before .before .bytes .ensures) (c .before .before .before .before .before .before .before .place-of .ensures) (c .before .before .before .before .if5 .left) in
+    feed-ready (a .tables .now) (a .running .now) (a .part .now) (a .room .now) is-large tables-pass running-pass roomy short _ _ (c .before .before .state-of .ensures) (c .before .before .before .before .before .before .before .place-of .ensures)
 
 same-length-6 : tie.Need-same-length-6
-same-length-6 c = search needs
+same-length-6 c = c .before .before .before .running .given
 
 same-length-7 : tie.Need-same-length-7
-same-length-7 c = search needs
+same-length-7 c = c .before .room .given
 
 returns-6 : tie.Need-returns-6
 returns-6 c =
@@ -122,8 +128,9 @@ returns-6 c =
     let is-large : tooSmall (a .tables .now) (a .running .now) ≡ false = sym (c .before .before .before .before .before .before .before .before .before .before .before .before .before .before .before .before .before .before .before .before .before .before .too-small .ensures) ∙ c .before .before .before .before .before .before .before .before .before .before .before .before .before .before .before .before .before .before .before .before .before .if1 .left in
     let tables-pass : tablesPass (a .tables .now) ≡ true = sym (c .before .before .before .before .before .before .before .before .before .before .before .before .before .before .before .before .before .before .before .before .passes .ensures) ∙ not-false (c .before .before .before .before .before .before .before .before .before .before .before .before .before .before .before .before .before .before .before .before .passes .result) (c .before .before .before .before .before .before .before .before .before .before .before .before .before .before .before .before .before .before .before .if2 .left) in
     let running-pass : runningPass (a .tables .now) (a .running .now) ≡ true = sym (c .before .before .before .before .before .before .before .before .before .before .before .before .before .before .before .before .before .running-passes .ensures) ∙ not-false (c .before .before .before .before .before .before .before .before .before .before .before .before .before .before .before .before .before .running-passes .result) (c .before .before .before .before .before .before .before .before .before .before .before .before .before .before .before .before .if3 .left) in
-    feed-promised (a .tables .now) (a .running .now) (a .part .now) (a .room .now) _ (c .before .before .before .before .take-part .ensures ∙ ap₂ (tookFrom (a .tables .now) (a .running .now) (a .part .now) (a .room .now)) (c .before .before .before .before .before .before .before .state-of .ensures) (c .before .before .before .before .before .before .before .before .before .before .before .before .place-of .ensures)
-    ∙ sym (feed-takes (a .tables .now) (a .running .now) (a .part .now) (a .room .now) is-large tables-pass running-pass (omega arith) (omega arith)))
+    let roomy : phraseCountIn (a .tables .now) ≤ length (a .room .now) / 2 = subst (λ (n : ℕ). n ≤ length (a .room .now) / 2) (c .before .before .before .before .before .before .before .before .before .before .before .before .before .before .before .phrase-count .ensures .0) (c .before .before .before .before .before .before .before .before .before .before .before .before .before .before .if4 .left) in
+    let short : length (a .part .now) ≤ largestPlace - placeHeld (a .running .now) = fits _ _ _ _ _ (c .before .before .before .before .before .before .before .before .before .before .size64 .ensures) (c .before .before .before .before .before .before .before .before .before .before .before .bytes .ensures) (c .before .before .before .before .before .before .before .before .before .before .before .before .place-of .ensures) (c .before .before .before .before .before .before .before .before .before .if5 .left) in
+    feed-promised (a .tables .now) (a .running .now) (a .part .now) (a .room .now) _ (feed-took (a .tables .now) (a .running .now) (a .part .now) (a .room .now) is-large tables-pass running-pass roomy short _ _ (c .before .before .before .before .before .before .before .state-of .ensures) (c .before .before .before .before .before .before .before .before .before .before .before .before .place-of .ensures) _ (c .before .before .before .before .take-part .ensures))
 
 pub feed-spec : {M : Type 1} → statement M
 feed-spec =

@@ -1,6 +1,6 @@
 -- The two stores are those of the definition.
 -- Assumes nothing.
-use Rattle.tracking.specs.Head.{movedTo}
+use Rattle.scanner.proofs.Cases.{moved-stored}
 use borrow.Author.Needs.{needs}
 use Rattle.scanner.proofs.move_to.Statement.{statement}
 use Rattle.scanner.proofs.move_to.Tie as tie
@@ -21,8 +21,10 @@ same-length : tie.Need-same-length
 same-length c = search needs
 
 returns : tie.Need-returns
-unfolding movedTo
-returns c = cc
+returns c =
+    let a = c .before .before .before .before .before .before .before .before .before .before .before .args in
+    moved-stored (a .m .now) _ _ (a .state .0) (a .place .0) _ _ (c .before .before .before .before .before .before .before .before .number .ensures) (c .before .before .before .before .before .before .before .put2 .ensures)
+    (c .before .before .before .bytes .ensures) (c .before .before .put8 .ensures)
 
 pub move-to-spec : {M : Type 1} → statement M
 move-to-spec =

@@ -1,7 +1,7 @@
 -- The three stores are those of the definition.
 -- Assumes nothing.
 use Rattle.running.specs.Layout.{runningTag}
-use Rattle.tracking.specs.Head.{begunWith}
+use Rattle.scanner.proofs.Cases.{begun-stored}
 use borrow.Author.Needs.{needs}
 use Rattle.scanner.proofs.write_begun.Statement.{statement}
 use Rattle.scanner.proofs.write_begun.Tie as tie
@@ -22,8 +22,11 @@ same-length : tie.Need-same-length
 same-length c = search needs
 
 returns : tie.Need-returns
-unfolding begunWith runningTag
-returns c = cc
+unfolding runningTag
+returns c =
+    let a = c .before .before .before .before .before .before .before .before .before .before .before .before .before .before .before .args in
+    begun-stored (a .t .now) (a .m .now) _ _ _ _ (c .before .before .before .before .before .before .before .before .before .before .before .begin-windows .ensures)
+    (c .before .before .before .before .before .before .before .mark .ensures) (c .before .before .before .before .before .before .put8 .ensures) (c .before .before .put82 .ensures)
 
 pub write-begun-spec : {M : Type 1} → statement M
 write-begun-spec =

@@ -2,6 +2,7 @@
 use borrow.Author.Needs.{needs}
 use Rattle.tables.specs.Layout.{tablesTag}
 use Rattle.builder.specs.Passes.{withHeader}
+use Rattle.builder.proofs.Headed.{five-stored}
 use Rattle.builder.proofs.header.put_header.Statement.{statement}
 use Rattle.builder.proofs.header.put_header.Tie as tie
 
@@ -34,7 +35,9 @@ same-length c = search needs
 
 returns : tie.Need-returns
 unfolding withHeader tablesTag
-returns c = cc
+returns c =
+    five-stored _ _ _ _ _ _ _ _ _ _ _ _ _ _ _ _ (c .before .before .before .before .before .before .before .before .before .before .before .before .before .before .before .before .before .before .put2 .ensures) (c .before .before .before .before .before .before .before .before .before .before .before .before .before .before .put22 .ensures)
+    (c .before .before .before .before .before .before .before .before .before .before .put23 .ensures) (c .before .before .before .before .before .before .put8 .ensures) (c .before .before .put82 .ensures)
 
 pub put-header-spec : {M : Type 1} → statement M
 put-header-spec =

@@ -1,6 +1,6 @@
 -- The three passes are those of the definition, one after the other.
 -- Assumes nothing.
-use Rattle.builder.specs.Passes.{rowsBy}
+use Rattle.builder.proofs.Rows.{rows-stored}
 use borrow.Author.Needs.{needs}
 use Rattle.builder.proofs.passes.fill_rows.Statement.{statement}
 use Rattle.builder.proofs.passes.fill_rows.Tie as tie
@@ -18,8 +18,9 @@ same-length : tie.Need-same-length
 same-length c = search needs
 
 returns : tie.Need-returns
-unfolding rowsBy
-returns c = cc
+returns c =
+    let a = c .before .before .before .before .before .before .before .before .before .before .before .before .before .args in
+    rows-stored (a .t .now) _ _ _ (a .states) _ (c .before .before .before .before .before .before .before .before .before .before .fill .ensures .0 .0) (c .before .before .before .before .before .before .before .before .before .before .fill .ensures .0 .1) (c .before .before .before .before .before .before .fill2 .ensures) (c .before .before .fill3 .ensures)
 
 pub fill-rows-spec : {M : Type 1} → statement M
 fill-rows-spec =

@@ -4,7 +4,7 @@ use mathlib.Core.Path.{ap, _∙_}
 use native.Mathlib.Omega.{arith}
 use Rattle.filling.specs.Onward.{stretch}
 use Rattle.filling.specs.Turns.{progress, withFirst}
-use Rattle.filling.proofs.Turning.{turn-is, turn-room}
+use Rattle.filling.proofs.Turning.{turn-taken, turn-room}
 use borrow.Author.Needs.{needs}
 use Rattle.filling.proofs.turns.take_turn.Statement.{statement}
 use Rattle.filling.proofs.turns.take_turn.Tie as tie
@@ -56,16 +56,16 @@ number-children-requires c κs =
     (omega arith, room)
 
 same-length : tie.Need-same-length
-same-length c = search needs
+same-length c = c .before .t2 .given ∙ c .before .before .before .before .before .before .before .before .before .before .before .before .before .t .given
 
 returns : tie.Need-returns
 unfolding withFirst
 returns c =
     let a = c .before .before .before .before .before .before .before .before .before .before .before .before .before .before .before .before .before .before .args in
-    c .before .before .number-children .ensures
-    ∙ turn-is (a .book .now) (a .offsets .now) (a .lengths .now) (a .keywords) (a .turn) (progress (a .t .now) (a .begins .now) (a .counts .now) (a .states)) _ _
+    turn-taken (a .book .now) (a .offsets .now) (a .lengths .now) (a .keywords) (a .turn) (progress (a .t .now) (a .begins .now) (a .counts .now) (a .states)) _ _
     (stretch (c .before .before .before .before .before .before .before .before .before .pair-size .result) (c .before .before .before .before .before .before .before .before .wide-size .result))
     (ap (λ w. progress w (a .begins .now) (a .counts .now) (a .states)) (c .before .before .before .before .before .before .before .before .before .before .before .before .before .before .put2 .ensures)) (c .before .before .before .before .before .before .before .before .before .pair-size .ensures .0) (c .before .before .before .before .before .before .before .before .wide-size .ensures .0) (c .before .before .before .before .before .before .before .onward-from .ensures)
+    (c .before .before .number-children .ensures)
 
 pub take-turn-spec : {M : Type 1} → statement M
 take-turn-spec =

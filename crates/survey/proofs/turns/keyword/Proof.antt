@@ -1,9 +1,7 @@
 -- A piece is entered and its keyword noted where there is room for them. Assumes nothing.
-use native.Mathlib.Omega.{arith}
-use borrow.Author.Tests.{lt-ltb, le-ltb}
-use Rattle.tables.specs.Layout.{roomForPieces}
-use Rattle.survey.specs.Turns.{entryFor, keywordTurn}
 use borrow.Author.Needs.{needs}
+use Rattle.survey.specs.Turns.{entryFor}
+use Rattle.survey.proofs.Onward.{keyword-full, keyword-stored}
 use Rattle.survey.proofs.turns.keyword.Statement.{statement}
 use Rattle.survey.proofs.turns.keyword.Tie as tie
 
@@ -11,10 +9,9 @@ moved-requires : tie.Need-moved-requires
 moved-requires c κs = search needs
 
 returns : tie.Need-returns
-unfolding keywordTurn
 returns c =
     let a = c .before .before .before .before .args in
-    rw (le-ltb (a .progress .pieces) roomForPieces (c .before .if1 .taken), c .moved .ensures)
+    keyword-full (a .book .now) (a .t .now) (a .offsets .now) (a .lengths .now) (a .progress) (a .word) (c .before .if1 .taken) (c .moved .ensures)
 
 cast-offsets : tie.Need-cast-offsets
 cast-offsets c = search needs
@@ -41,26 +38,21 @@ ends-of-requires : tie.Need-ends-of-requires
 ends-of-requires c κs = search needs
 
 put-piece-requires : tie.Need-put-piece-requires
-put-piece-requires c κs = search needs
+put-piece-requires c κs = (c .before .before .before .before .before .before .before .before .before .before .pre .0, c .before .before .before .before .before .before .before .if1 .left)
 
 worded-requires : tie.Need-worded-requires
-worded-requires c κs = search needs
+worded-requires c κs = c .before .before .before .before .before .before .before .before .before .before .if1 .left
 
 same-length : tie.Need-same-length
-same-length c = search needs
+same-length c = c .before .before .t .given
 
 returns-2 : tie.Need-returns-2
-unfolding keywordTurn entryFor
+unfolding entryFor
 returns-2 c =
     let a = c .before .before .before .before .before .before .before .before .before .before .before .before .before .before .args in
-    rw (
-      lt-ltb (a .progress .pieces) roomForPieces (omega arith),
-      c .worded .ensures,
-      c .before .before .before .put-piece .ensures,
-      c .before .before .before .before .before .ends-of .ensures,
-      c .before .before .before .before .before .before .gap-at .ensures,
-      c .before .before .before .before .before .before .before .delay-of .ensures,
-    )
+    keyword-stored (a .book .now) (a .t .now) (a .offsets .now) (a .lengths .now) (a .progress) (a .word) (c .before .before .before .before .before .before .before .before .before .before .before .if1 .left)
+    (c .before .before .before .put-piece .ensures) (c .worded .ensures)
+    (rw (c .before .before .before .before .before .ends-of .ensures, c .before .before .before .before .before .before .gap-at .ensures, c .before .before .before .before .before .before .before .delay-of .ensures))
 
 pub keyword-spec : {M : Type 1} → statement M
 keyword-spec =

@@ -1,9 +1,9 @@
 -- A phrase is entered where there is room for it. Assumes nothing.
-use native.Mathlib.Omega.{arith}
-use borrow.Author.Tests.{lt-ltb, le-ltb}
+use borrow.Author.Tests.{le-ltb}
 use Rattle.counters.proofs.Same.{same-rank}
 use Rattle.tables.specs.Layout.{roomForPhrases}
 use Rattle.survey.specs.Turns.{phraseTurn}
+use Rattle.survey.proofs.Onward.{phrase-stored}
 use borrow.Author.Needs.{needs}
 use Rattle.survey.proofs.turns.phrase.Statement.{statement}
 use Rattle.survey.proofs.turns.phrase.Tie as tie
@@ -30,18 +30,13 @@ named-requires : tie.Need-named-requires
 named-requires c κs = search needs
 
 same-length : tie.Need-same-length
-same-length c = search needs
+same-length c = c .before .before .t .given
 
 returns-2 : tie.Need-returns-2
-unfolding phraseTurn
 returns-2 c =
     let a = c .before .before .before .before .before .before .before .before .args in
-    λ offsets lengths. rw (
-      lt-ltb (a .progress .phrases) roomForPhrases (omega arith),
-      c .named .ensures,
-      c .before .before .before .put-phrase .ensures,
-      same-rank (c .before .before .before .before .before .of .ensures),
-    )
+    λ offsets lengths. phrase-stored (a .t .now) offsets lengths (a .progress) (a .number) (a .rights) (a .next) (c .before .before .before .before .before .before .if1 .left) (c .before .before .before .put-phrase .ensures) (c .named .ensures)
+    (same-rank (c .before .before .before .before .before .of .ensures))
 
 pub phrase-spec : {M : Type 1} → statement M
 phrase-spec =

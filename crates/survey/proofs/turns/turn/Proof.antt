@@ -5,7 +5,7 @@ use borrow.Author.Needs.{needs}
 use Rattle.book.specs.declared.records.Found.{Found}
 use Rattle.survey.specs.declared.progress.Progress.{Progress}
 use Rattle.survey.specs.Turns.{noted, Reading, reading, turnFor, turnAt}
-use Rattle.survey.proofs.Onward.{turn-told, inside-told, short-told}
+use Rattle.survey.proofs.Onward.{turned, inside-told, short-told}
 use Rattle.survey.proofs.turns.turn.Statement.{statement}
 use Rattle.survey.proofs.turns.turn.Tie as tie
 
@@ -18,8 +18,7 @@ moves : (c : tie.After-read) {told : Found} {progress next : Progress} → c .re
     → reading next (found-at c .notes) ≡ turnFor (c .before .before .before .args .book .now) (found-at c) told
     → reading progress (found-at c .notes) ≡ turnAt (c .before .before .before .args .book .now) (found-at c)
 moves c tells is left =
-    ap (λ (p : Progress). reading p (found-at c .notes)) is ∙ left
-    ∙ turn-told (c .before .before .before .args .book .now) (found-at c) (c .read .ensures .exact) tells
+    turned (c .before .before .before .args .book .now) (found-at c) (c .read .ensures .exact) tells (ap (λ (p : Progress). reading p (found-at c .notes)) is ∙ left)
 
 read-requires : tie.Need-read-requires
 read-requires c κs = search needs
@@ -77,14 +76,14 @@ returns : tie.Need-returns
 returns c = moves (c .before .before .before .before) (c .before .before .found .given .1) (c .moved .ensures) refl
 
 same-length : tie.Need-same-length
-same-length c = search needs
+same-length c = c .before .t .given
 
 returns-2 : tie.Need-returns-2
 returns-2 c =
     let read = c .before .before .before .before .before .before .before in
     let a = read .before .before .before .args in
-    c .before .before .phrase .ensures (a .offsets .now) (a .lengths .now)
-    ∙ turn-told (a .book .now) (found-at read) (read .read .ensures .exact) (c .before .before .before .before .before .found2 .given .1)
+    turned (a .book .now) (found-at read) (read .read .ensures .exact) (c .before .before .before .before .before .found2 .given .1)
+    (c .before .before .phrase .ensures (a .offsets .now) (a .lengths .now))
 
 returns-3 : tie.Need-returns-3
 returns-3 c = moves (c .before .before .before .before .before) (c .before .before .before .found3 .given .1) (c .gapped .ensures) (rw (c .before .span-of .ensures))
@@ -93,13 +92,13 @@ returns-4 : tie.Need-returns-4
 returns-4 c = moves (c .before .before .before .before) (c .before .before .found4 .given .1) (c .gapped2 .ensures) refl
 
 same-length-2 : tie.Need-same-length-2
-same-length-2 c = search needs
+same-length-2 c = c .before .t2 .given
 
 returns-5 : tie.Need-returns-5
 returns-5 c =
     let read = c .before .before .before .before .before .before .before .before .before in
-    c .before .before .keyword .ensures
-    ∙ turn-told (read .before .before .before .args .book .now) (found-at read) (read .read .ensures .exact) (c .before .before .before .before .before .before .before .found5 .given .1)
+    turned (read .before .before .before .args .book .now) (found-at read) (read .read .ensures .exact) (c .before .before .before .before .before .before .before .found5 .given .1)
+    (c .before .before .keyword .ensures)
 
 returns-6 : tie.Need-returns-6
 returns-6 c = moves (c .before .before .before .before) (c .before .before .found6 .given .1) (c .moved2 .ensures) refl
