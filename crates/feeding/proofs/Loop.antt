@@ -18,9 +18,14 @@ use Rattle.gliding.specs.Glide.{glideIn, goneBy, glideOf, GlideReady, GlideKept
 use Rattle.gliding.specs.Foreseen.{afterFrom, Foreseen}
 use Rattle.gliding.proofs.Foreseen.{foreseen-on}
 use Rattle.feeding.specs.Taken.{Run, runOf, progressOn, wayFrom, freeAfter, partTaken, toCome}
-use Rattle.feeding.specs.Ready.{ReadyOn, Took, Passed}
+use Rattle.feeding.specs.Ready.{ReadyOn, KeptOn, Took}
 use Rattle.feeding.specs.declared.Progress.{Progress}
 use Rattle.feeding.proofs.Turns.{goneOf, wentTo, settled, part-full, rest-part}
+
+-- Some of a part was taken: what is left comes to what was left before.
+pub record Passed (t part : List ℕ) (free : ℕ) (m₀ room₀ : List ℕ) (from : Progress) (m room : List ℕ) (to : Progress) : Type 0 where
+  pub rest : toCome t free part (runOf to m room) ≡ toCome t free part (runOf from m₀ room₀)
+  pub kept : KeptOn t part free from to
 
 -- What holds before each turn: some bytes have been passed.
 pub record Turning (t part m₀ room₀ : List ℕ) (phrases free : ℕ) (way₀ : Way) (written₀ : ℕ) (m room : List ℕ) (way : Way) (written : ℕ) : Type 0 where
