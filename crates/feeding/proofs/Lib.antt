@@ -2,6 +2,8 @@ pub mod Turns
 pub mod Loop
 pub mod Upto
 pub mod Quarters
+pub mod Ahead
+pub mod AllBlocks
 pub mod Reports
 pub mod Right
 pub mod Rule

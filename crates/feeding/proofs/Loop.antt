@@ -18,12 +18,18 @@ use Rattle.gliding.specs.Glide.{glideIn, goneBy, glideOf, GlideReady, GlideKept
 use Rattle.gliding.specs.Foreseen.{afterFrom, Foreseen}
 use Rattle.gliding.proofs.Foreseen.{foreseen-on}
 use Rattle.feeding.specs.Taken.{Run, runOf, progressOn, wayFrom, freeAfter, partTaken, toCome}
-use Rattle.feeding.specs.Ready.{ReadyOn, Took, Passed}
+use Rattle.feeding.specs.Ready.{ReadyOn, KeptOn, Took}
 use Rattle.feeding.specs.declared.Progress.{Progress}
 use Rattle.feeding.proofs.Turns.{goneOf, wentTo, settled, part-full, rest-part}
 
+-- Some of a part was taken: what is left comes to what was left before.
+pub record Passed (t part : List ℕ) (free : ℕ) (m₀ room₀ : List ℕ) (from : Progress) (m room : List ℕ) (to : Progress) : Type 0 where
+  pub rest : toCome t free part (runOf to m room) ≡ toCome t free part (runOf from m₀ room₀)
+  pub kept : KeptOn t part free from to
+
 -- What holds before each turn: some bytes have been passed.
 pub record Turning (t part m₀ room₀ : List ℕ) (phrases free : ℕ) (way₀ : Way) (written₀ : ℕ) (m room : List ℕ) (way : Way) (written : ℕ) : Type 0 where
+  pub on : ReadyOn t m₀ part (length room₀ / 2) (progressOn way₀ written₀)
   pub counted : phrases ≡ phraseCountIn t
   pub spare : free ≡ length room₀ / 2
   pub passed : Passed t part (length room₀ / 2) m₀ room₀ (progressOn way₀ written₀) m room (progressOn way written)
@@ -44,6 +50,7 @@ module _ {t part m₀ : List ℕ} {from : Progress} {way₀ : Way} (begun : way�
 pub turning-start : {t part m₀ room₀ : List ℕ} {phrases : ℕ} {way₀ : Way} {written₀ : ℕ} → ReadyOn t m₀ part (length room₀ / 2) (progressOn way₀ written₀)
     → phrases ≡ phraseCountIn t → Turning t part m₀ room₀ phrases (length room₀ / 2) way₀ written₀ m₀ room₀ way₀ written₀
 turning-start on counted = record {
+  on = on;
   counted = counted;
   spare = refl;
   passed = record { rest = refl; kept = record { kept = on .kept; few = on .few; early = omega arith } };
@@ -51,7 +58,7 @@ turning-start on counted = record {
   roomy = refl;
 }
 
-module _ {t part m₀ room₀ m room : List ℕ} {phrases free : ℕ} {way₀ way : Way} {written₀ written : ℕ} (on : ReadyOn t m₀ part (length room₀ / 2) (progressOn way₀ written₀))
+module _ {t part m₀ room₀ m room : List ℕ} {phrases free : ℕ} {way₀ way : Way} {written₀ written : ℕ}
     (turning : Turning t part m₀ room₀ phrases free way₀ written₀ m room way written) where
   abbrev run : Way → Run
   run way = runOf (progressOn way written) m room
@@ -62,15 +69,15 @@ module _ {t part m₀ room₀ m room : List ℕ} {phrases free : ℕ} {way₀ wa
   -- Bytes can be glided over.
   pub turning-ready : GlideReady t m part way
   turning-ready = record {
-    tables = on .ready .tables;
-    memory = omega (arith, on .ready .memory, turning .long);
-    few-states = on .ready .states;
-    some-dense = on .ready .some-dense;
-    few-dense = on .ready .few-dense;
+    tables = turning .on .ready .tables;
+    memory = omega (arith, turning .on .ready .memory, turning .long);
+    few-states = turning .on .ready .states;
+    some-dense = turning .on .ready .some-dense;
+    few-dense = turning .on .ready .few-dense;
     inside = turning .passed .kept .kept .inside;
     within = turning .passed .kept .kept .within;
-    short = on .short;
-    early = omega (arith, on .ready .early, on .kept .within, turning .passed .kept .early, turning .passed .kept .kept .within);
+    short = turning .on .short;
+    early = omega (arith, turning .on .ready .early, turning .on .kept .within, turning .passed .kept .early, turning .passed .kept .kept .within);
     few-gains = turning .passed .kept .kept .few-gains;
   }
 
@@ -107,18 +114,19 @@ module _ {t part m₀ room₀ m room : List ℕ} {phrases free : ℕ} {way₀ wa
     pub turning-happens : (Whole t) × (WholeRunning m) × (phraseCountIn t ≤ roomForPhrases) × (2 * (written + phraseCountIn t) ≤ length room)
         × (next .state .0 < roomForStates) × (InLetter (next .place .0))
     turning-happens = (
-      on .ready .tables,
-      omega (arith, on .ready .memory, turning .long),
-      on .ready .phrases,
+      turning .on .ready .tables,
+      omega (arith, turning .on .ready .memory, turning .long),
+      turning .on .ready .phrases,
       omega (arith, turning-few, turning .counted, turning .spare, turning .roomy),
-      omega (arith, kept .inside, on .ready .states),
-      omega (arith, early, kept .within, on .ready .early, on .kept .within),
+      omega (arith, kept .inside, turning .on .ready .states),
+      omega (arith, early, kept .within, turning .on .ready .early, turning .on .kept .within),
     )
 
     pub turning-next : next .event ≡ true → {m₁ room₁ : List ℕ} {written₁ : ℕ}
         → hereWith written₁ room₁ m₁ ≡ happened t (next .state .0) (next .place .0) (hereWith written room m) → length m₁ ≡ length m → length room₁ ≡ length room
         → Turning t part m₀ room₀ phrases free way₀ written₀ m₁ room₁ next written₁
     turning-next event {m₁} {room₁} {written₁} what long roomy = record {
+      on = turning .on;
       counted = turning .counted;
       spare = turning .spare;
       passed = record {

@@ -1,7 +1,7 @@
 -- A part that is taken piece by piece comes to what the whole part comes to: a run that stopped in the middle of a piece has no room for another byte.
 -- Assumes nothing.
 use mathlib.Core.Path.{_≡_, refl, sym, ap, _∙_}
-use mathlib.Core.Logic.{⊎-elim}
+use mathlib.Core.Logic.{_⊎_, inl, inr, ⊎-elim}
 use mathlib.Core.Bool.{Bool, true, false, cond}
 use mathlib.Core.List.{List, [], _∷_, _++_}
 use Prim.Native.Nat.{ℕ, zero, suc, _+_, _-_, _≤_, _<_}
@@ -9,14 +9,14 @@ use native.Mathlib.Numerals.{add-one}
 use native.Mathlib.Omega.{arith}
 use lib.Dec.{ltb}
 use lib.ListN.{length, take, drop, getD, take-append-drop, length-drop}
-use lib.Seq.{drop-cons, drop-append-le, length-take-le}
+use lib.Seq.{drop-cons, drop-append-le, length-take-le, getD-take, take-take}
 use borrow.Author.Tests.{ltb-true}
 use Rattle.counters.specs.declared.State.{State}
 use Rattle.counters.specs.declared.Place.{Place}
 use Rattle.tables.specs.Reads.{stateCountIn, denseIn, phraseCountIn}
 use Rattle.gliding.specs.Quick.{quickIn}
 use Rattle.gliding.specs.Foreseen.{afterFrom}
-use Rattle.gliding.proofs.Foreseen.{after-add}
+use Rattle.gliding.proofs.Foreseen.{after-add, after-same}
 use Rattle.feeding.specs.Taken.{Run, byteTaken, freeAfter, partTaken, toCome}
 use Rattle.feeding.specs.Ready.{Ready, ReadyOn, KeptOn}
 use Rattle.feeding.specs.Rule.{allTaken}
@@ -64,7 +64,13 @@ module _ (t : List ℕ) (room : ℕ) where
           ∙ ap (λ (k : ℕ). afterFrom t part (first + 1) (quickIn t (stateCountIn t) (denseIn t) (run .state) (getD part k 0)) n) (sym place)
           ∙ sym (ap (afterFrom t part first (run .state)) one ∙ after-add t part first (run .state) 1 n)
 
-  -- The first bytes of a part, up to one of its ends: what is left is what was left before.
+  -- With no byte a run stays as it is.
+  pub part-none : (none : List ℕ) (run : Run) → length none ≡ 0 → partTaken t room none run ≡ run
+  unfolding partTaken
+  part-none [] run e = refl
+  part-none (byte ∷ rest) run e = absurd (omega arith)
+
+  -- The first bytes of a part, up to one of its ends.
   module _ (part : List ℕ) (end : ℕ) (run to : Run) (within : end ≤ length part) (ahead : run .taken ≤ end) (is : to ≡ toCome t room (take end part) run) where
     abbrev upto : List ℕ
     upto = take end part
@@ -75,14 +81,24 @@ module _ (t : List ℕ) (room : ℕ) where
     took : Some t room (drop (run .taken) upto) run to
     took = rw is (rule-kept t room (drop (run .taken) upto) run)
 
+    -- All of them were taken, or there is no room for another byte.
+    pub upto-stops : (to .taken ≡ end) ⊎ (freeAfter room to < phraseCountIn t)
+    upto-stops =
+        ⊎-elim
+        (λ (all : took .0 ≡ length (drop (run .taken) upto)). inl (omega (arith, took .1 .taken, length-drop (run .taken) upto, long)))
+        (λ (full : freeAfter room to < phraseCountIn t). inr full)
+        (took .1 .stops)
+
+    pub upto-within : to .taken ≤ end
+    upto-within = omega (arith, took .1 .taken, took .1 .offered, length-drop (run .taken) upto, long)
+
+    -- What is left is what was left before.
     pub upto-on : toCome t room part to ≡ toCome t room part run
     upto-on =
         ⊎-elim
-        (λ (all : took .0 ≡ length (drop (run .taken) upto)).
-        let whole : to .taken ≡ end = omega (arith, took .1 .taken, length-drop (run .taken) upto, long) in
-        ap (λ (k : ℕ). partTaken t room (drop k part) to) whole ∙ onward)
+        (λ (whole : to .taken ≡ end). ap (λ (k : ℕ). partTaken t room (drop k part) to) whole ∙ onward)
         (λ (full : freeAfter room to < phraseCountIn t). part-full t room part (drop (to .taken) part) to full ∙ sym (part-full t room part (drop end part) to full) ∙ onward)
-        (took .1 .stops)
+        upto-stops
       where
         split : drop (run .taken) part ≡ drop (run .taken) upto ++ drop end part
         split =
@@ -94,12 +110,35 @@ module _ (t : List ℕ) (room : ℕ) where
             ∙ sym (ap (λ (l : List ℕ). partTaken t room l run) split)
 
     -- The state is that after the bytes.
-    pub upto-state : to .state ≡ afterFrom t upto (run .taken) (run .state) (to .taken - run .taken)
+    pub upto-state : to .state ≡ afterFrom t part (run .taken) (run .state) (to .taken - run .taken)
     upto-state =
         let count : took .0 ≡ to .taken - run .taken = omega (arith, took .1 .taken) in
         ap (λ (r : Run). r .state) (took .1 .these)
         ∙ all-after upto (took .0) (run .taken) run (omega (arith, took .1 .offered, length-drop (run .taken) upto, long))
         ∙ ap (afterFrom t upto (run .taken) (run .state)) count
+        ∙ after-same t upto part (run .taken) (run .state) (to .taken - run .taken) (λ i l. getD-take end part i 0 (omega (arith, upto-within, took .1 .taken)))
+
+  -- Up to where a run has come there is no byte left.
+  pub upto-none : (part : List ℕ) (run : Run) → run .taken ≤ length part → toCome t room (take (run .taken) part) run ≡ run
+  upto-none part run within =
+      part-none (drop (run .taken) (take (run .taken) part)) run (omega (arith, length-drop (run .taken) (take (run .taken) part), length-take-le (run .taken) part within))
+
+  -- Up to one end, and from there up to another.
+  module _ (part : List ℕ) (first last : ℕ) (run to : Run) (within : last ≤ length part) (later : first ≤ last) (ahead : run .taken ≤ first)
+      (is : to ≡ toCome t room (take first part) run) where
+    upto-first : to ≡ toCome t room (take first (take last part)) run
+    upto-first = is ∙ ap (λ (l : List ℕ). toCome t room l run) (sym (take-take first last part later))
+
+    pub upto-upto : toCome t room (take last part) to ≡ toCome t room (take last part) run
+    upto-upto = upto-on (take last part) first run to (omega (arith, length-take-le last part within)) ahead upto-first
+
+    -- Where the first end was not reached there is no room for another byte.
+    pub upto-stopped : to .taken < first → to ≡ toCome t room (take last part) run
+    upto-stopped short =
+        ⊎-elim
+        (λ (whole : to .taken ≡ first). absurd (omega arith))
+        (λ (full : freeAfter room to < phraseCountIn t). sym (part-full t room part (drop (to .taken) (take last part)) to full) ∙ upto-upto)
+        (upto-stops part first run to (omega arith) ahead is)
 
 -- ── From where a call has come to ──
 
@@ -129,8 +168,8 @@ module _ {t m₀ part : List ℕ} {room : ℕ} {from : Progress} (on : ReadyOn t
   pub ready-on : {to : Progress} {m : List ℕ} → KeptOn t part room from to → length m ≡ length m₀ → ReadyOn t m part room to
   ready-on kept long = ready-upto kept long part (omega arith) (kept .kept .within)
 
--- One after the other.
-pub kept-on : {t upto part : List ℕ} {room : ℕ} {from mid to : Progress} → length upto ≤ length part → KeptOn t part room from mid → KeptOn t upto room mid to
+-- One after the other, each in some first bytes of the part.
+pub kept-on : {t first upto part : List ℕ} {room : ℕ} {from mid to : Progress} → length upto ≤ length part → KeptOn t first room from mid → KeptOn t upto room mid to
     → KeptOn t part room from to
 kept-on shorter before after = record {
   kept = record { inside = after .kept .inside; within = omega (arith, after .kept .within); few-gains = after .kept .few-gains };

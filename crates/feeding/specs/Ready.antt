@@ -12,6 +12,7 @@ use Rattle.gliding.specs.Foreseen.{Looked, Foreseen}
 use Rattle.ahead.specs.Columns.{columnsFit}
 use Rattle.feeding.specs.declared.Progress.{Progress}
 use Rattle.feeding.specs.Taken.{runOf, toCome}
+use Rattle.feeding.specs.Blocks.{allBlocks, aheadTaken}
 
 -- Before a part of so many bytes.
 pub record Ready (t m : List ℕ) (offered state place : ℕ) : Type 0 where
@@ -50,11 +51,6 @@ pub record Took (t part : List ℕ) (free : ℕ) (m₀ room₀ : List ℕ) (from
   pub all : runOf to m room ≡ toCome t free part (runOf from m₀ room₀)
   pub kept : KeptOn t part free from to
 
--- Some of it was taken: what is left comes to what was left before.
-pub record Passed (t part : List ℕ) (free : ℕ) (m₀ room₀ : List ℕ) (from : Progress) (m room : List ℕ) (to : Progress) : Type 0 where
-  pub rest : toCome t free part (runOf to m room) ≡ toCome t free part (runOf from m₀ room₀)
-  pub kept : KeptOn t part free from to
-
 -- ── Blocks whose states are looked up ahead ──
 
 -- Before quarter k of a block, which ends with the part: the states of its bytes are right.
@@ -87,6 +83,16 @@ pub record BlockReady (t m part : List ℕ) (free quarter : ℕ) (from : Progres
   pub blocks : BlocksReady t m part free from
   pub fits : QuarterFits (length part - from .taken) quarter
   pub some : 0 < quarter
+
+-- All blocks of a part were taken, from where a call had come to.
+pub record TookBlocks (t part : List ℕ) (free : ℕ) (m₀ room₀ : List ℕ) (from : Progress) (m room : List ℕ) (to : Progress) : Type 0 where
+  pub all : runOf to m room ≡ allBlocks t free part (runOf from m₀ room₀)
+  pub kept : KeptOn t part free from to
+
+-- As much of a part was taken as is taken in blocks.
+pub record TookAhead (t part : List ℕ) (free : ℕ) (m₀ room₀ : List ℕ) (from : Progress) (m room : List ℕ) (to : Progress) : Type 0 where
+  pub all : runOf to m room ≡ aheadTaken t free part (runOf from m₀ room₀)
+  pub kept : KeptOn t part free from to
 
 -- ── Steps ──
 

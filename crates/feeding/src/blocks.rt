@@ -1,7 +1,9 @@
 // Blocks of a part whose states are looked up ahead, in four quarters side by side.
-ghost use Prim.Native.Nat.{_/_, _<_};
-ghost use lib.ListN.{length};
-ghost use Rattle.feeding.specs.Ready.{ReadyOn, QuarterFits, QuartersReady, BlockReady, BlocksReady, Passed};
+ghost use mathlib.Core.Path.{_≡_};
+ghost use Prim.Native.Nat.{_+_, _*_, _/_, _<_};
+ghost use lib.ListN.{length, take};
+ghost use Rattle.feeding.specs.Blocks.{quarterOf};
+ghost use Rattle.feeding.specs.Ready.{ReadyOn, Took, QuartersReady, BlocksReady, BlockReady, TookBlocks, TookAhead};
 use crate::Progress;
 use crate::quarter::take_quarter;
 
@@ -35,7 +37,7 @@ fn take_quarters(
     from: Progress,
 ) -> Progress
     requires { ⌜ QuartersReady (now t) (now m) (now part) (length (now room) / 2) (now states) quarter from ⌝ }
-    ensures { λ r. ⌜ Passed (now (t .entry)) (now (part .entry)) (length (now (room .entry)) / 2) (now (m .entry)) (now (room .entry)) from (now (m .exit)) (now (room .exit)) r ⌝ }
+    ensures { λ r. ⌜ Took (now (t .entry)) (take (from .taken + 4 * quarter) (now (part .entry))) (length (now (room .entry)) / 2) (now (m .entry)) (now (room .entry)) from (now (m .exit)) (now (room .exit)) r ⌝ }
 {
     let mut end = from.taken;
     let mut progress = from;
@@ -67,7 +69,7 @@ fn take_block(
     from: Progress,
 ) -> Progress
     requires { ⌜ BlockReady (now t) (now m) (now part) (length (now room) / 2) quarter from ⌝ }
-    ensures { λ r. ⌜ Passed (now (t .entry)) (now (part .entry)) (length (now (room .entry)) / 2) (now (m .entry)) (now (room .entry)) from (now (m .exit)) (now (room .exit)) r ⌝ }
+    ensures { λ r. ⌜ Took (now (t .entry)) (take (from .taken + 4 * quarter) (now (part .entry))) (length (now (room .entry)) / 2) (now (m .entry)) (now (room .entry)) from (now (m .exit)) (now (room .exit)) r ⌝ }
 {
     let mut states = [0u16; STATES];
     let state = from.state;
@@ -79,7 +81,7 @@ fn take_block(
 // too little room.
 fn quarter_of(remaining: usize, free: usize, phrases: usize) -> usize
     requires { ⌜ phrases < 65536 ⌝ }
-    ensures { λ r. ⌜ QuarterFits remaining r ⌝ }
+    ensures { λ r. ⌜ r ≡ quarterOf remaining free phrases ⌝ }
 {
     if remaining < SHORTEST {
         return 0;
@@ -96,7 +98,7 @@ fn quarter_of(remaining: usize, free: usize, phrases: usize) -> usize
 // Blocks one after the other, as long as each is taken whole and another fits.
 fn take_blocks(t: &[u8], m: &mut [u8], part: &[u8], room: &mut [u32], from: Progress) -> Progress
     requires { ⌜ BlocksReady (now t) (now m) (now part) (length (now room) / 2) from ⌝ }
-    ensures { λ r. ⌜ Passed (now (t .entry)) (now (part .entry)) (length (now (room .entry)) / 2) (now (m .entry)) (now (room .entry)) from (now (m .exit)) (now (room .exit)) r ⌝ }
+    ensures { λ r. ⌜ TookBlocks (now (t .entry)) (now (part .entry)) (length (now (room .entry)) / 2) (now (m .entry)) (now (room .entry)) from (now (m .exit)) (now (room .exit)) r ⌝ }
 {
     let phrases = tables::phrase_count(t);
     let free = room.len() / 2;
@@ -121,7 +123,7 @@ fn take_blocks(t: &[u8], m: &mut [u8], part: &[u8], room: &mut [u32], from: Prog
 // fit.
 pub fn take_ahead(t: &[u8], m: &mut [u8], part: &[u8], room: &mut [u32], from: Progress) -> Progress
     requires { ⌜ ReadyOn (now t) (now m) (now part) (length (now room) / 2) from ⌝ }
-    ensures { λ r. ⌜ Passed (now (t .entry)) (now (part .entry)) (length (now (room .entry)) / 2) (now (m .entry)) (now (room .entry)) from (now (m .exit)) (now (room .exit)) r ⌝ }
+    ensures { λ r. ⌜ TookAhead (now (t .entry)) (now (part .entry)) (length (now (room .entry)) / 2) (now (m .entry)) (now (room .entry)) from (now (m .exit)) (now (room .exit)) r ⌝ }
 {
     if part.len() < SHORTEST {
         return from;

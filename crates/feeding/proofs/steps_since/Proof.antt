@@ -7,13 +7,13 @@ use Rattle.feeding.proofs.steps_since.Statement.{statement}
 use Rattle.feeding.proofs.steps_since.Tie as tie
 
 size64-requires : tie.Need-size64-requires
-size64-requires c κs = search needs
+size64-requires c κs = tt
 
 depth-requires : tie.Need-depth-requires
 depth-requires c κs = search needs
 
 wide64-requires : tie.Need-wide64-requires
-wide64-requires c κs = search needs
+wide64-requires c κs = tt
 
 add-brought : tie.Need-add-brought
 add-brought c = search needs
@@ -22,7 +22,7 @@ depth-requires-2 : tie.Need-depth-requires-2
 depth-requires-2 c κs = search needs
 
 wide64-requires-2 : tie.Need-wide64-requires-2
-wide64-requires-2 c κs = search needs
+wide64-requires-2 c κs = tt
 
 add-left : tie.Need-add-left
 add-left c = search needs

@@ -1,12 +1,13 @@
 -- The states were looked up, so that the quarters can be taken.
 -- Assumes nothing.
+use mathlib.Core.Path.{refl}
 use native.Mathlib.Omega.{arith}
 use borrow.Author.Needs.{needs}
 use Rattle.feeding.proofs.blocks.take_block.Statement.{statement}
 use Rattle.feeding.proofs.blocks.take_block.Tie as tie
 
 slice-aggregate-look-ahead : tie.Need-slice-aggregate-look-ahead
-slice-aggregate-look-ahead c = search needs
+slice-aggregate-look-ahead c = refl
 
 look-ahead-requires : tie.Need-look-ahead-requires
 look-ahead-requires c κs =
@@ -38,14 +39,14 @@ take-quarters-requires c κs =
       on = on;
       within = omega (arith, pre .fits .within, on .kept .within);
       looked = looked .ensures .0;
-      room-for = omega (arith, pre .fits .short, looked .ensures .1);
+      room-for = omega (arith, pre .fits .short, looked .kept);
     }
 
 same-length : tie.Need-same-length
-same-length c = omega arith
+same-length c = c .before .before .before .before .take-quarters .kept .1 .0
 
 same-length-2 : tie.Need-same-length-2
-same-length-2 c = omega arith
+same-length-2 c = c .before .before .before .before .take-quarters .kept .1 .1 .1 .0
 
 returns : tie.Need-returns
 returns c = c .before .before .before .before .take-quarters .ensures
