@@ -16,13 +16,6 @@ depths-further t (suc i) p = refl
 pub depths-turn : (t₀ : List ℕ) (i state : ℕ) (t now : List ℕ) → 0 < i → t ≡ withDepths t₀ i → state ≡ i → now ≡ withDepth t state → now ≡ withDepths t₀ (i + 1)
 depths-turn t₀ i state t now p e z h = rw (add-one, depths-further t₀ i p, ← e, ← z) h
 
--- One child more has its turn, and one less is left.
-pub child-less : (child end : ℕ) → child < end → end - (child + 1) < end - child
-child-less child end l = omega arith
-
-pub child-within : (from child end : ℕ) → from ≤ child → child < end → child + 1 - from ≤ end - from
-child-within from child end k l = omega arith
-
 module _ (t : List ℕ) (parent from : ℕ) where
   pub gains-start : t ≡ withGains t parent from (from - from)
   unfolding withGains

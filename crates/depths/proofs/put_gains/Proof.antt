@@ -2,11 +2,12 @@
 -- Assumes nothing.
 use mathlib.Core.Path.{_≡_, refl, _∙_}
 use Prim.Native.Nat.{_-_, _≤_}
+use native.Mathlib.Numerals.{add-one-dec}
 use native.Mathlib.Omega.{arith}
 use borrow.Author.Needs.{needs}
 use lib.ListN.{length}
 use Rattle.depths.specs.Depths.{withGains}
-use Rattle.depths.proofs.Turns.{child-less, child-within, gains-start, gains-further, gains-done}
+use Rattle.depths.proofs.Turns.{gains-start, gains-further, gains-done}
 use Rattle.depths.proofs.put_gains.Statement.{statement}
 use Rattle.depths.proofs.put_gains.Tie as tie
 
@@ -41,7 +42,7 @@ add-child : tie.Need-add-child Inv-loop μ-loop
 add-child c = omega arith
 
 loop-less : tie.Need-loop-less Inv-loop μ-loop
-loop-less c = child-less _ _ (c .before .before .before .before .before .loop-test .taken)
+loop-less c = add-one-dec _ _ (c .before .before .before .before .before .loop-test .taken)
 
 loop-again : tie.Need-loop-again Inv-loop μ-loop
 loop-again c =
@@ -49,7 +50,7 @@ loop-again c =
     let a = at .before .before .before .before .before .before .args in
     let further = gains-further (a .t .now) (a .parent .0) (at .before .first-child .result) (at .loop .child) (c .before .before .before .numbered .result .0) (at .loop .t) _ (at .loop .inv .0)
     (c .before .before .before .numbered .ensures) (at .loop .inv .2) (c .before .before .put-gain .ensures) in
-    (omega arith, child-within _ _ _ (at .loop .inv .0) (c .before .before .before .before .before .loop-test .taken), further, c .before .t .given ∙ at .loop .inv .3)
+    (omega arith, omega arith, further, c .before .t .given ∙ at .loop .inv .3)
 
 same-length : tie.Need-same-length Inv-loop μ-loop
 same-length c = omega arith
