@@ -11,7 +11,7 @@ use Rattle.tables.specs.Reads.{gainIn}
 use Rattle.gliding.specs.Glide.{quietAt}
 use Rattle.skimming.specs.Look.{Look, lookIn, lookFrom}
 use Rattle.skimming.specs.Infos.{States}
-use Rattle.skimming.specs.Ready.{LookReady, LookKept, WayReady}
+use Rattle.skimming.specs.Ready.{lookOf, LookReady, LookKept, WayReady}
 use Rattle.skimming.specs.declared.Looking.{Looking}
 
 abbrev pub look : ℕ → ℕ → ℕ → ℕ → Bool → Look
@@ -74,6 +74,16 @@ kept-on from on to one two = record {
   place = omega (arith, one .place, two .place);
   few-gains = omega (arith, one .few-gains, two .few-gains);
 }
+
+-- So many places more were gone over, and each gained at most 128.
+pub kept-further : (n : ℕ) (from to : Looking) → n ≤ from .left → to .at ≡ from .at + 4 * n → to .left ≡ from .left - n → to .place .0 ≡ from .place .0 + n
+    → to .gains ≤ from .gains + 128 * n → LookKept from to
+kept-further n from to some at left place gains = record { at = omega arith; left = omega arith; place = omega arith; few-gains = omega arith }
+
+-- What is come to from there, and from there, is what is come to from the start.
+pub same-on : (t m ahead : List ℕ) (from on to : Looking) → lookFrom t m ahead (lookOf on) ≡ lookFrom t m ahead (lookOf from)
+    → lookFrom t m ahead (lookOf to) ≡ lookFrom t m ahead (lookOf on) → lookFrom t m ahead (lookOf to) ≡ lookFrom t m ahead (lookOf from)
+same-on t m ahead from on to one two = two ∙ one
 
 pub ready-on : (t m ahead : List ℕ) (from to : Looking) → LookReady t m ahead from → LookKept from to → to .event ≡ false → LookReady t m ahead to
 ready-on t m ahead from to ready kept still = record {

@@ -41,7 +41,7 @@ same-length-3 c = search needs
 returns-3 : tie.Need-returns-3
 returns-3 c =
     let a = c .before .before .before .before .before .before .before .before .before .args in
-    cc (column-cells (a .t .now) (a .states) (a .dense) (a .byte) (omega arith) (omega arith))
+    rw (c .before .before .put-cells .ensures, c .before .before .before .before .before .before .column .ensures .0) (sym (column-cells (a .t .now) (a .states) (a .dense) (a .byte) (omega arith) (omega arith)))
 
 pub fill-column-spec : {M : Type 1} → statement M
 fill-column-spec =

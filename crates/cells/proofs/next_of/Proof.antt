@@ -23,7 +23,7 @@ unfolding nextFor
 returns c =
     let a = c .before .before .before .before .before .args in
     let child : childByIn (a .t .now) (a .states) (a .state .0) (a .byte) ≡ 0 → ⊥ = λ e. c .before .if1 .taken (c .before .before .number .ensures ∙ c .before .before .before .child-by .ensures .0 ∙ e) in
-    rw (ne-eqb (childByIn (a .t .now) (a .states) (a .state .0) (a .byte)) 0 child) (cc, omega arith)
+    rw (ne-eqb (childByIn (a .t .now) (a .states) (a .state .0) (a .byte)) 0 child) (simp (c .index .ensures .0, c .before .before .before .child-by .ensures .0), omega arith)
 
 number-requires-2 : tie.Need-number-requires-2
 number-requires-2 c κs = search needs
@@ -48,7 +48,7 @@ returns-3 c =
     let a = c .before .before .before .before .before .before .before .before .args in
     let none : childByIn (a .t .now) (a .states) (a .state .0) (a .byte) ≡ 0 = sym (c .before .before .before .before .before .number .ensures ∙ c .before .before .before .before .before .before .child-by .ensures .0) ∙ c .before .before .before .before .if1 .left in
     let other : a .state .0 ≡ 0 → ⊥ = λ e. c .before .before .if2 .left (c .before .before .before .number2 .ensures ∙ e) in
-    rw (eq-eqb (childByIn (a .t .now) (a .states) (a .state .0) (a .byte)) 0 none, ne-eqb (a .state .0) 0 other) (cc, omega arith)
+    rw (eq-eqb (childByIn (a .t .now) (a .states) (a .state .0) (a .byte)) 0 none, ne-eqb (a .state .0) 0 other) (simp (c .cell .ensures .0, c .before .failure .ensures .0), omega arith)
 
 pub next-of-spec : {M : Type 1} → statement M
 next-of-spec =

@@ -28,7 +28,7 @@ same-length c = search needs
 
 returns : tie.Need-returns
 unfolding withCell
-returns c = cc
+returns c = rw (c .before .before .put2 .ensures, c .before .before .before .index .ensures .0, c .before .before .before .before .before .next-of .ensures .0)
 
 pub put-cell-spec : {M : Type 1} → statement M
 put-cell-spec =

@@ -39,7 +39,7 @@ same-length c = search needs
 
 returns : tie.Need-returns
 unfolding withColumn
-returns c = cc
+returns c = rw (c .before .before .put2 .ensures, c .before .before .before .before .column .ensures .0)
 
 pub put-column-spec : {M : Type 1} → statement M
 put-column-spec =

@@ -25,7 +25,13 @@ same-length c = search needs
 
 returns : tie.Need-returns
 unfolding filled
-returns c = cc
+returns c = rw (
+  c .before .before .put-all-gains .ensures,
+  c .before .before .before .before .before .before .put-gain .ensures,
+  c .before .before .before .before .before .before .before .root2 .ensures,
+  c .before .before .before .before .before .before .before .before .root .ensures,
+  c .before .before .before .before .before .before .before .before .before .before .before .before .put-depths .ensures,
+)
 
 pub fill-spec : {M : Type 1} → statement M
 fill-spec =

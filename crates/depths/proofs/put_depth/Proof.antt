@@ -34,7 +34,7 @@ same-length c = search needs
 
 returns : tie.Need-returns
 unfolding withDepth
-returns c = cc
+returns c = rw (c .index .ensures .0, c .before .wide .ensures .0, c .before .before .depth .ensures, c .before .before .before .failure .ensures .0)
 
 pub put-depth-spec : {M : Type 1} → statement M
 put-depth-spec =

@@ -52,7 +52,15 @@ same-length c = search needs
 
 returns : tie.Need-returns
 unfolding withGain
-returns c = cc
+returns c = simp (
+  c .index .ensures .0,
+  c .before .wide3 .ensures .0,
+  c .before .before .info .ensures,
+  c .before .before .before .before .wide2 .ensures .0,
+  c .before .before .before .before .before .depth2 .ensures,
+  c .before .before .before .before .before .before .before .wide .ensures .0,
+  c .before .before .before .before .before .before .before .before .depth .ensures,
+)
 
 pub put-gain-spec : {M : Type 1} → statement M
 put-gain-spec =

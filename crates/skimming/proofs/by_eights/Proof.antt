@@ -7,7 +7,7 @@ use borrow.Author.Needs.{needs}
 use Rattle.window.specs.Waiting.{slotOf}
 use Rattle.skimming.specs.Look.{lookFrom}
 use Rattle.skimming.specs.Ready.{lookOf, LookKept}
-use Rattle.skimming.proofs.Looks.{kept-still, kept-on, ready-on}
+use Rattle.skimming.proofs.Looks.{kept-still, kept-on, kept-further, ready-on}
 use Rattle.skimming.proofs.Eights.{eight-ready, eight-places}
 use Rattle.skimming.proofs.by_eights.Statement.{statement}
 use Rattle.skimming.proofs.by_eights.Tie as tie
@@ -99,7 +99,7 @@ loop-again c =
     (sum .eight .result) (slot .slot-of .result) (later .later .result .0) (sum .eight .ensures .0) (omega (arith, flags .before .if3 .left))
     (slot .slot-of .ensures .0 ∙ ap slotOf (slot .before .next .ensures)) (omega (arith, sum .before .if2 .left)) (omega (arith, flags .get8 .ensures, later .before .if4 .left)) (later .later .ensures) in (
       refl,
-      kept-on (a .from) from _ (inv .1) (record { at = omega arith; left = omega arith; place = omega (arith, later .later .ensures); few-gains = omega arith }),
+      kept-on (a .from) from _ (inv .1) (kept-further 8 from _ enough refl refl (later .later .ensures) (omega (arith, flags .before .if3 .left))),
       on ∙ inv .2,
     )
 

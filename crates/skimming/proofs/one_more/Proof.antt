@@ -1,9 +1,9 @@
 -- Whether it is quiet at the place decides, as it does for one place of the definition.
 -- Assumes nothing.
-use mathlib.Core.Path.{sym, _∙_}
+use mathlib.Core.Path.{refl, sym, _∙_}
 use native.Mathlib.Omega.{arith}
 use borrow.Author.Needs.{needs}
-use Rattle.skimming.proofs.Looks.{one-place, first-state}
+use Rattle.skimming.proofs.Looks.{one-place, first-state, kept-further}
 use Rattle.skimming.proofs.one_more.Statement.{statement}
 use Rattle.skimming.proofs.one_more.Tie as tie
 
@@ -57,7 +57,7 @@ returns c =
     let gain = c .before .before .before .wide64 .ensures .0 ∙ c .before .before .before .before .gain .ensures in (
       one-place (a .t .now) (a .m .now) (a .ahead .now) (from .at) (from .place .0) (from .gains) (from .left) (from .event) (entry .pre .0 .quiet) some
           _ _ _ (c .is-quiet .result) (next .before .numbered .ensures) gain (next .next .ensures) (sym (c .is-quiet .ensures)),
-      record { at = omega (arith, some); left = omega arith; place = omega (arith, some, next .next .ensures); few-gains = omega (arith, some, gain) },
+      kept-further 1 from _ some refl refl (next .next .ensures) (omega (arith, gain)),
       omega (arith, some),
     )
 

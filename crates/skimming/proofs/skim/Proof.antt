@@ -1,13 +1,13 @@
 -- Each turn goes over at most eight places one by one, and then by eights, and what it comes to from there stays the same. The measure is how many
 -- bytes are left.
 -- Assumes nothing.
-use mathlib.Core.Path.{_≡_, refl, _∙_}
+use mathlib.Core.Path.{_≡_, refl}
 use mathlib.Core.Bool.{false}
 use native.Mathlib.Omega.{arith}
 use lib.ListN.{length}
 use Rattle.skimming.specs.Look.{lookFrom}
 use Rattle.skimming.specs.Ready.{lookOf, LookKept}
-use Rattle.skimming.proofs.Looks.{kept-still, kept-on, ready-on, way-ready, settled-event, settled-end}
+use Rattle.skimming.proofs.Looks.{kept-still, kept-on, same-on, ready-on, way-ready, settled-event, settled-end}
 use Rattle.skimming.proofs.Skimmed.{startOf, start-ready, skimmed-none, skimmed-some}
 use Rattle.skimming.proofs.skim.Statement.{statement}
 use Rattle.skimming.proofs.skim.Tie as tie
@@ -76,7 +76,7 @@ returns-2 c =
     let last = one .result in
     let kept = kept-on start (at .loop .looking) last (at .loop .inv .1) (one .ensures .1) in
     skimmed-some (a .t .now) (a .m .now) (a .part .now) (a .ahead .now) (a .first) (a .k) (a .from) (entry .pre) last kept (omega (arith, one .ensures .2, at .loop .inv .1 .left))
-    (c .way-to .result) (one .ensures .0 ∙ at .loop .inv .2)
+    (c .way-to .result) (same-on (a .t .now) (a .m .now) (a .ahead .now) start (at .loop .looking) last (at .loop .inv .2) (one .ensures .0))
     (settled-event (a .t .now) (a .m .now) (a .ahead .now) (last .at) (last .left) (last .place .0) (last .gains) (last .event) (c .before .if3 .taken)) (c .way-to .ensures)
 
 by-eights-requires : tie.Need-by-eights-requires Inv-loop μ-loop
@@ -100,7 +100,11 @@ loop-again c =
     let one = c .before .before .singly in
     let eights = c .by-eights in
     let kept = kept-on start (at .loop .looking) (one .result) (at .loop .inv .1) (one .ensures .1) in
-    (eights .ensures .2, kept-on start (one .result) (eights .result) kept (eights .ensures .1), eights .ensures .0 ∙ one .ensures .0 ∙ at .loop .inv .2)
+    let same = same-on (a .t .now) (a .m .now) (a .ahead .now) start (at .loop .looking) (one .result) (at .loop .inv .2) (one .ensures .0) in (
+      eights .ensures .2,
+      kept-on start (one .result) (eights .result) kept (eights .ensures .1),
+      same-on (a .t .now) (a .m .now) (a .ahead .now) start (one .result) (eights .result) same (eights .ensures .0),
+    )
 
 way-to-requires-2 : tie.Need-way-to-requires-2 Inv-loop μ-loop
 way-to-requires-2 c κs =

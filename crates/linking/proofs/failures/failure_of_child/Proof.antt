@@ -18,7 +18,7 @@ next-state-requires c κs = search needs
 
 returns : tie.Need-returns
 unfolding failureOfChild
-returns c = cc (ap (λ (l : Landed). l .at) (c .before .next-state .ensures .0))
+returns c = simp (ap (λ (l : Landed). l .at) (c .before .next-state .ensures .0), c .before .before .label .ensures, c .before .before .before .failure .ensures .0)
 
 pub failure-of-child-spec : {M : Type 1} → statement M
 failure-of-child-spec =
