@@ -17,38 +17,35 @@ use Rattle.format.specs.Judged.{gapOf, phraseOf, onward}
 use Rattle.format.proofs.Tests.{or-cases}
 use Rattle.format.proofs.Bodies.{keyword-only}
 use Rattle.format.proofs.Counted.{keywords-named, keywords-further}
-use Rattle.book.specs.declared.records.Found.the-variants.{Keyword}
-use Rattle.book.specs.Records.{bodyAt, cursorAt, wholeAt}
-use Rattle.book.specs.Prefixes.{keywordIn, keywordsBefore}
+use Rattle.records.specs.declared.records.Found.the-variants.{Keyword}
+use Rattle.records.specs.Records.{bodyAt, cursorAt, wholeAt}
+use Rattle.records.specs.Prefixes.{keywordIn, keywordsBefore}
 use Rattle.book.specs.Judging.{foundTurn}
-use Rattle.book.specs.Tallies.{tally, turnFor}
+use Rattle.book.specs.Tallies.{tallyOf, turnFor}
 use Rattle.book.proofs.TurnByTests.{header-fault, phrase-fault, bounded-fault, open-fault, end-fault, keyword-fault}
 use Rattle.book.proofs.TurnByTests.{header-turn, phrase-turn, bounded-turn, open-turn, end-turn, keyword-turn}
 
 module _ (bytes : List ℕ) (at : ℕ) where
   -- A whole record of kind k: its turn is that of its first fault, and it adds its keyword to those of the stage.
   pub record Agrees (stage : Stage) (k : ℕ) : Type 0 where
-    pub turn : foundTurn bytes at (tally stage) (wholeAt bytes at k)
-        ≡ turnFor at (at + (1 + bodyLength k)) (firstFault stage (k ∷ drop (at + 1) bytes)) (onward stage k (take (bodyLength k) (drop (at + 1) bytes)))
+    pub turn : foundTurn bytes at (tallyOf stage) (wholeAt bytes at k)
+        ≡ turnFor (firstFault stage (k ∷ drop (at + 1) bytes)) (onward stage k (take (bodyLength k) (drop (at + 1) bytes)))
     pub words : keywords (phrasesAt (onward stage k (take (bodyLength k) (drop (at + 1) bytes)))) ≡ keywords (phrasesAt stage) ++ keywordIn bytes (wholeAt bytes at k)
 
   abbrev Long : ℕ → Type 0
   Long k = bodyLength k ≤ length (drop (at + 1) bytes)
 
-  -- The bytes behind the kind, those of the body, and the offset behind that.
+  -- The bytes behind the kind, and those of the body.
   abbrev behind : List ℕ
   behind = drop (at + 1) bytes
 
   abbrev body : ℕ → List ℕ
   body k = take (bodyLength k) (drop (at + 1) bytes)
 
-  abbrev next : ℕ → ℕ
-  next k = at + (1 + bodyLength k)
-
   header-agrees : Long headerKind → Agrees start headerKind
   unfolding foundTurn wholeAt bodyAt phrasesAt onward keywords keywordIn
   header-agrees long = record {
-    turn = rw (header-fault behind long) (header-turn at (next headerKind) (getD (body headerKind) 0 0));
+    turn = rw (header-fault behind long) (header-turn (getD (body headerKind) 0 0));
     words = refl;
   }
 
@@ -56,7 +53,7 @@ module _ (bytes : List ℕ) (at : ℕ) where
       → Long phraseKind → Agrees stage phraseKind
   unfolding foundTurn wholeAt bodyAt phrasesAt keywordIn phraseOf
   phrase-agrees stage allows goes long = record {
-    turn = rw (phrase-fault behind stage allows long, goes) (phrase-turn at (next phraseKind) stage (body phraseKind));
+    turn = rw (phrase-fault behind stage allows long, goes) (phrase-turn stage (body phraseKind));
     words = rw goes (keywords-named (phrasesAt stage) (phraseOf (body phraseKind)) refl ∙ sym (append-nil (keywords (phrasesAt stage))));
   }
 
@@ -67,7 +64,7 @@ module _ (bytes : List ℕ) (at : ℕ) where
     unfolding foundTurn wholeAt bodyAt phrasesAt keywordIn
     bounded-agrees allows goes long = record {
       turn = rw (bounded-fault behind stage allows long, goes)
-          (bounded-turn at (next boundedKind) stage phrases phrase (gapOf boundedKind (body boundedKind)) is own (two (body boundedKind) 0) (two (body boundedKind) 2));
+          (bounded-turn stage phrases phrase (gapOf boundedKind (body boundedKind)) is own (two (body boundedKind) 0) (two (body boundedKind) 2));
       words = rw goes (ap keywords (sym is) ∙ sym (append-nil (keywords (phrasesAt stage))));
     }
 
@@ -75,18 +72,18 @@ module _ (bytes : List ℕ) (at : ℕ) where
         → Long openKind → Agrees stage openKind
     unfolding foundTurn wholeAt bodyAt phrasesAt keywordIn
     open-agrees allows goes long = record {
-      turn = rw (open-fault behind stage allows long, goes) (open-turn at (next openKind) stage phrases phrase (gapOf openKind (body openKind)) is own (two (body openKind) 0));
+      turn = rw (open-fault behind stage allows long, goes) (open-turn stage phrases phrase (gapOf openKind (body openKind)) is own (two (body openKind) 0));
       words = rw goes (ap keywords (sym is) ∙ sym (append-nil (keywords (phrasesAt stage))));
     }
 
   end-agrees : (phrases : List Phrase) (phrase : Phrase) → Long endKind → Agrees (worded phrases phrase) endKind
   unfolding foundTurn wholeAt bodyAt phrasesAt onward keywordIn allowed
   end-agrees phrases phrase long = record {
-    turn = rw (end-fault behind (worded phrases phrase) refl long) (end-turn at (next endKind) phrases phrase (two (body endKind) 0));
+    turn = rw (end-fault behind (worded phrases phrase) refl long) (end-turn phrases phrase (two (body endKind) 0));
     words = sym (append-nil (keywords (phrases ++ phrase ∷ [])));
   }
 
-  keyword-is : (k : ℕ) → So (isKeyword k) → wholeAt bytes at k ≡ Keyword (at + 1) (bodyLength k) (cursorAt (next k))
+  keyword-is : (k : ℕ) → So (isKeyword k) → wholeAt bytes at k ≡ Keyword (at + 1) (bodyLength k) (cursorAt (at + (1 + bodyLength k)))
   unfolding wholeAt
   keyword-is k h = simp (keyword-only k h)
 
@@ -95,7 +92,7 @@ module _ (bytes : List ℕ) (at : ℕ) where
   unfolding foundTurn phrasesAt onward keywordIn allowed
   keyword-agrees phrases phrase gap before k h long = record {
     turn = rw (keyword-is k h, keyword-fault behind (gapped phrases phrase gap) k h h long)
-        (keyword-turn at (next k) bytes phrases phrase gap before (at + 1) (bodyLength k) (length-take-le (bodyLength k) behind long));
+        (keyword-turn at bytes phrases phrase gap before (at + 1) (bodyLength k) (length-take-le (bodyLength k) behind long));
     words = rw (keyword-is k h) (keywords-further phrases phrase (record { gap = gap; keyword = body k }));
   }
 

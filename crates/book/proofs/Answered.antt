@@ -1,5 +1,5 @@
 -- Each of judge's answers says one thing of the bytes, because its number tells the judgement apart. Assumes nothing.
-use mathlib.Core.Path.{_≡_, sym, ap, _∙_}
+use mathlib.Core.Path.{_≡_, ap, _∙_}
 use mathlib.Core.List.{List}
 use Prim.Native.Nat.{ℕ}
 use native.Mathlib.Omega.{arith}
@@ -7,9 +7,9 @@ use lib.ListN.{length}
 use Rattle.meaning.specs.Books.{Book}
 use Rattle.format.specs.Judged.{Judgement, accepted, refused, Answer, answerOf, RefusedFor, AcceptedAs, Judges}
 use Rattle.format.proofs.Answers.{number-range, number-once}
-use Rattle.book.specs.declared.answers.Refusal.{Refusal}
+use Rattle.records.specs.declared.refusals.Refusal.{Refusal}
+use Rattle.records.specs.Refusals.{reasonOf}
 use Rattle.book.specs.declared.answers.Judged.the-variants.{Accepted, Refused}
-use Rattle.book.specs.Refusals.{reasonOf}
 use Rattle.book.specs.Answers.{saidBy, Meant}
 
 -- Accepted: the bytes are the written form of a book within the limits, of that length and with so many phrases.

@@ -1,11 +1,5 @@
-pub mod Bytes
-pub mod Fields
-pub mod Standing
-pub mod Common
-pub mod Shared
 pub mod Tests
 pub mod OneTurn
-pub mod Walk
 pub mod Tallied
 pub mod TurnByTests
 pub mod Agree

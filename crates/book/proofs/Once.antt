@@ -1,30 +1,17 @@
 -- No second answer is right: one judgement alone is true of the bytes, and each of judge's answers says another number, offset or
 -- count of phrases. Assumes nothing.
-use mathlib.Core.Path.{_≡_, refl, sym, ap, ap₂, _∙_}
+use mathlib.Core.Path.{_≡_, sym, ap, ap₂, _∙_}
 use mathlib.Core.List.{List}
 use Prim.Native.Nat.{ℕ}
 use native.Mathlib.Omega.{arith}
 use Rattle.format.specs.Judged.{Answer, answerOf}
 use Rattle.format.proofs.Theorem.{judges-once}
 use Rattle.format.proofs.Answers.{number-range, number-once}
-use Rattle.book.specs.declared.answers.Refusal.{Refusal}
-use Rattle.book.specs.declared.answers.Refusal.the-variants.{Cut, Kind, Field, Crossed, Order, Many, Total, Full}
+use Rattle.records.specs.Refusals.{reasonOf, refusalFor}
+use Rattle.records.proofs.Names.{reason-back}
 use Rattle.book.specs.declared.answers.Judged.{Judged}
 use Rattle.book.specs.declared.answers.Judged.the-variants.{Accepted, Refused}
-use Rattle.book.specs.Refusals.{reasonOf, refusalFor}
 use Rattle.book.specs.Answers.{saidBy, Meant, JudgedRight}
-
--- A refusal of the code is named as its reason is.
-pub reason-back : (why : Refusal) → refusalFor (reasonOf why) ≡ why
-unfolding reasonOf refusalFor
-reason-back Cut = refl
-reason-back Kind = refl
-reason-back Field = refl
-reason-back Crossed = refl
-reason-back Order = refl
-reason-back Many = refl
-reason-back Total = refl
-reason-back Full = refl
 
 -- No two answers of judge say the same.
 pub said-once : (a b : Judged) → saidBy a ≡ saidBy b → a ≡ b

@@ -12,12 +12,8 @@ use Rattle.format.specs.Faults.{lastNumber, allowed, two}
 use Rattle.format.specs.Judged.{phraseOf, withPiece}
 use Rattle.format.proofs.Lists.{length-further}
 use Rattle.format.proofs.Counted.{count-pieces, keywords-named, keywords-further}
-use Rattle.counters.specs.declared.Number.{Number}
-use Rattle.counters.specs.Counters.{numberOf}
-use Rattle.counters.proofs.Same.{same-number}
-use Rattle.book.specs.declared.progress.Stage.the-variants as name
 use Rattle.book.specs.Judging.{Small, allowedOf}
-use Rattle.book.specs.Tallies.{nameOf, tally}
+use Rattle.book.specs.Tallies.{nameOf, tallyOf}
 
 -- ── Stages ──
 
@@ -39,15 +35,15 @@ last-further (first ∷ []) phrase = refl
 last-further (first ∷ second ∷ rest) phrase = last-further (second ∷ rest) phrase
 
 -- Nothing is counted before the header.
-pub start-tally : {number : Number} → number .0 ≡ 0 → record { stage = name.Start; phrases = 0; last = number; own = 0; pieces = 0; prefixes = 0 } ≡ tally start
-unfolding tally nameOf phrasesAt piecesAt lastNumber pieceCount keywords prefixCount
-start-tally e = rw (same-number e)
+pub start-tally : record { phrases = 0; last = 0; own = 0; pieces = 0; prefixes = 0 } ≡ tallyOf start
+unfolding tallyOf phrasesAt piecesAt lastNumber pieceCount keywords prefixCount
+start-tally = refl
 
 -- A further phrase, which has no pieces yet.
 pub named-tally : (phrases : List Phrase) (body : List ℕ)
-    → record { stage = name.Named; phrases = length phrases + 1; last = numberOf (two body 0); own = 0; pieces = pieceCount phrases; prefixes = prefixCount (keywords phrases) }
-    ≡ tally (named phrases (phraseOf body))
-unfolding tally nameOf phrasesAt piecesAt phraseOf
+    → record { phrases = length phrases + 1; last = two body 0; own = 0; pieces = pieceCount phrases; prefixes = prefixCount (keywords phrases) }
+    ≡ tallyOf (named phrases (phraseOf body))
+unfolding tallyOf phrasesAt piecesAt phraseOf
 named-tally phrases body =
     let pieces : pieceCount (phrases ++ phraseOf body ∷ []) ≡ pieceCount phrases = omega (arith, count-pieces phrases (phraseOf body)) in
     rw (length-further phrases (phraseOf body), last-further phrases (phraseOf body), pieces, keywords-named phrases (phraseOf body) refl)
@@ -55,14 +51,13 @@ named-tally phrases body =
 -- A further piece of the last phrase, with its keyword.
 pub worded-tally : (phrases : List Phrase) (phrase : Phrase) (gap : Gap) (body : List ℕ)
     → record {
-      stage = name.Worded;
       phrases = length (phrases ++ phrase ∷ []);
-      last = numberOf (lastNumber (phrases ++ phrase ∷ []));
+      last = lastNumber (phrases ++ phrase ∷ []);
       own = length (phrase .pieces) + 1;
       pieces = pieceCount (phrases ++ phrase ∷ []) + 1;
       prefixes = prefixCount (keywords (phrases ++ phrase ∷ []) ++ body ∷ []);
-    } ≡ tally (worded phrases (withPiece phrase (record { gap = gap; keyword = body })))
-unfolding tally nameOf phrasesAt piecesAt withPiece
+    } ≡ tallyOf (worded phrases (withPiece phrase (record { gap = gap; keyword = body })))
+unfolding tallyOf phrasesAt piecesAt withPiece
 worded-tally phrases phrase gap body =
     let piece : Piece = record { gap = gap; keyword = body } in
     let further : Phrase = withPiece phrase piece in
@@ -74,8 +69,8 @@ worded-tally phrases phrase gap body =
 
 -- ── Limits ──
 
-pub tally-small : (stage : Stage) → SoFar stage → Small (tally stage)
-unfolding tally phrasesAt piecesAt SoFar pieceCount prefixCount keywords
+pub tally-small : (stage : Stage) → SoFar stage → Small (tallyOf stage)
+unfolding tallyOf phrasesAt piecesAt SoFar pieceCount prefixCount keywords
 tally-small start s = record { phrases = omega arith; own = omega arith; pieces = omega arith; prefixes = omega arith }
 tally-small headed s = record { phrases = omega arith; own = omega arith; pieces = omega arith; prefixes = omega arith }
 tally-small (named phrases phrase) s = record { phrases = s .3 .count; own = s .1 .count; pieces = s .3 .pieces; prefixes = s .3 .prefixes }

@@ -1,19 +1,28 @@
 -- A test of two tests stops at the first that fails, and what is not at most a limit is above it. Assumes nothing.
 use mathlib.Core.Path.{_≡_, refl, sym, ap, _∙_}
-use mathlib.Core.Logic.{⊎-elim}
-use mathlib.Core.Bool.{Bool, true, false, not, cond, _&&_}
+use mathlib.Core.Logic.{_⊎_, inl, inr, ⊎-elim}
+use mathlib.Core.Bool.{Bool, true, false, not, cond, _&&_, false≢true}
 use Prim.Native.Nat.{ℕ, _≤_, _<_}
 use lib.Dec.{leb, ltb}
 use borrow.Author.Tests.{le-leb, lt-leb, le-ltb, lt-ltb}
 use Rattle.lent.proofs.Cases.{lt-or-le}
 
--- The first holds, and the second is the answer.
-pub second-test : {a b p q : Bool} → a ≡ p → a ≡ true → b ≡ q → b ≡ p && q
-second-test e t f = rw (sym e ∙ t) f
+-- Two tests, the second of which is looked at where the first holds, and a third behind them; a fourth holds in any case.
+module _ (c : Bool) {d v : Bool} (fourth : d ≡ true) where
+  pub three-hold : (a b : Bool) → v ≡ a && b → v ≡ true → c ≡ (a && d) && (b && c)
+  three-hold true true e h = rw fourth
+  three-hold true false e h = absurd (false≢true (sym e ∙ h))
+  three-hold false b e h = absurd (false≢true (sym e ∙ h))
 
--- The first fails, and is the answer.
-pub first-test : {a p : Bool} (q : Bool) → a ≡ p → a ≡ false → a ≡ p && q
-first-test q e t = rw (sym e ∙ t) t
+  pub three-fail : (a b : Bool) → v ≡ a && b → v ≡ false → v ≡ (a && d) && (b && c)
+  three-fail true true e h = absurd (false≢true (sym h ∙ e))
+  three-fail true false e h = rw fourth h
+  three-fail false b e h = h
+
+-- Two bounds from below, one after the other.
+pub both-above : (low m n : ℕ) {v : Bool} → ((low ≤ m) × (v ≡ leb low n)) ⊎ ((m < low) × (v ≡ leb low m)) → v ≡ leb low m && leb low n
+both-above low m n (inl h) = rw (le-leb low m (h .0)) (h .1)
+both-above low m n (inr h) = rw (lt-leb low m (h .0)) (h .1 ∙ lt-leb low m (h .0))
 
 -- Where both are to hold, one after the other is looked at.
 pub one-by-one : {A : Type 0} (a b : Bool) (x y : A) → cond (not (a && b)) x y ≡ cond (not a) x (cond (not b) x y)

@@ -22,10 +22,11 @@ use Rattle.format.proofs.Shared.{count-further}
 use Rattle.format.proofs.Bodies.{keyword-length, noRoom}
 use Rattle.format.proofs.FirstFault as faults
 use Rattle.counters.specs.Counters.{numberOf}
-use Rattle.book.specs.Refusals.{refusalFor}
-use Rattle.book.specs.Prefixes.{bytesFrom, keywordsBefore}
-use Rattle.book.specs.Judging.{refuse, headerTurn, phraseTurn, gapTurn, boundedTurn, openTurn, prefixesWith, keywordTurn, endTurn}
-use Rattle.book.specs.Tallies.{nameOf, tally, turnFor}
+use Rattle.records.specs.Refusals.{refusalFor}
+use Rattle.records.specs.Prefixes.{bytesFrom, keywordsBefore}
+use Rattle.book.specs.declared.progress.Turn.the-variants.{Refused}
+use Rattle.book.specs.Judging.{headerTurn, phraseTurn, gapTurn, boundedTurn, openTurn, prefixesWith, keywordTurn, endTurn}
+use Rattle.book.specs.Tallies.{nameOf, tallyOf, turnFor}
 use Rattle.book.proofs.Tests.{one-by-one, not-at-most}
 use Rattle.book.proofs.Tallied.{named-tally, worded-tally}
 
@@ -74,56 +75,55 @@ module _ (behind : List ℕ) where
 -- ── The turn of a record, by the same tests ──
 
 -- A test that holds refuses, and else the turn goes by the tests behind it.
-refuses : (at next : ℕ) (test : Bool) (why : Refusal) (others : Option Refusal) (stage : Stage)
-    → turnFor at next (cond test (some why) others) stage ≡ cond test (refuse (refusalFor why) at) (turnFor at next others stage)
+refuses : (test : Bool) (why : Refusal) (others : Option Refusal) (stage : Stage)
+    → turnFor (cond test (some why) others) stage ≡ cond test (Refused (refusalFor why)) (turnFor others stage)
 unfolding turnFor
-refuses at next true why others stage = refl
-refuses at next false why others stage = refl
+refuses true why others stage = refl
+refuses false why others stage = refl
 
-module _ (at next : ℕ) where
-  pub header-turn : (edition : ℕ) → headerTurn (tally start) edition at next ≡ turnFor at next (cond (not (eqb edition theEdition)) (some field) none) headed
-  unfolding headerTurn tally nameOf phrasesAt piecesAt refusalFor turnFor
-  header-turn edition = rw refuses refl
+pub header-turn : (edition : ℕ) → headerTurn (tallyOf start) edition ≡ turnFor (cond (not (eqb edition theEdition)) (some field) none) headed
+unfolding headerTurn tallyOf nameOf phrasesAt piecesAt refusalFor turnFor
+header-turn edition = rw refuses refl
 
-  module _ (stage : Stage) where
-    pub phrase-turn : (body : List ℕ) → phraseTurn (tally stage) (numberOf (two body 0)) (getD body 2 0) at next
-        ≡ turnFor at next
-        (cond (not (between 1 mostNumber (two body 0) && between 1 mostRights (getD body 2 0))) (some field)
-        (cond (leb (two body 0) (lastNumber (phrasesAt stage))) (some order)
-        (cond (leb mostPhrases (length (phrasesAt stage))) (some many) none)))
-        (named (phrasesAt stage) (phraseOf body))
-    unfolding phraseTurn tally refusalFor turnFor
-    phrase-turn body = rw (refuses, refuses, refuses, ← named-tally (phrasesAt stage) body) refl
+module _ (stage : Stage) where
+  pub phrase-turn : (body : List ℕ) → phraseTurn (tallyOf stage) (numberOf (two body 0)) (getD body 2 0)
+      ≡ turnFor
+      (cond (not (between 1 mostNumber (two body 0) && between 1 mostRights (getD body 2 0))) (some field)
+      (cond (leb (two body 0) (lastNumber (phrasesAt stage))) (some order)
+      (cond (leb mostPhrases (length (phrasesAt stage))) (some many) none)))
+      (named (phrasesAt stage) (phraseOf body))
+  unfolding phraseTurn tallyOf nameOf refusalFor turnFor
+  phrase-turn body = rw (refuses, refuses, refuses, ← named-tally (phrasesAt stage) body) refl
 
-    module _ (phrases : List Phrase) (phrase : Phrase) (gap : Gap) (is : phrasesAt stage ≡ phrases ++ phrase ∷ []) (own : piecesAt stage ≡ phrase .pieces) where
-      gap-turn : gapTurn (tally stage) at next ≡ turnFor at next (cond (noRoom stage) (some many) none) (gapped phrases phrase gap)
-      unfolding gapTurn tally nameOf refusalFor turnFor phrasesAt piecesAt
-      gap-turn = rw (refuses, is, own) refl
+  module _ (phrases : List Phrase) (phrase : Phrase) (gap : Gap) (is : phrasesAt stage ≡ phrases ++ phrase ∷ []) (own : piecesAt stage ≡ phrase .pieces) where
+    gap-turn : gapTurn (tallyOf stage) ≡ turnFor (cond (noRoom stage) (some many) none) (gapped phrases phrase gap)
+    unfolding gapTurn tallyOf nameOf refusalFor turnFor phrasesAt piecesAt
+    gap-turn = rw (refuses, is, own) refl
 
-      pub bounded-turn : (least most : ℕ) → boundedTurn (tally stage) least most at next
-          ≡ turnFor at next (cond (not (leb least mostLeast && leb most mostMost)) (some field) (cond (ltb most least) (some crossed) (cond (noRoom stage) (some many) none)))
-          (gapped phrases phrase gap)
-      unfolding boundedTurn refusalFor
-      bounded-turn least most = rw (one-by-one, not-at-most, not-at-most, refuses, refuses, refuses, gap-turn)
+    pub bounded-turn : (least most : ℕ) → boundedTurn (tallyOf stage) least most
+        ≡ turnFor (cond (not (leb least mostLeast && leb most mostMost)) (some field) (cond (ltb most least) (some crossed) (cond (noRoom stage) (some many) none)))
+        (gapped phrases phrase gap)
+    unfolding boundedTurn refusalFor
+    bounded-turn least most = rw (one-by-one, not-at-most, not-at-most, refuses, refuses, refuses, gap-turn)
 
-      pub open-turn : (least : ℕ) → openTurn (tally stage) least at next
-          ≡ turnFor at next (cond (not (leb least mostLeast)) (some field) (cond (noRoom stage) (some many) none)) (gapped phrases phrase gap)
-      unfolding openTurn refusalFor
-      open-turn least = rw (not-at-most, refuses, gap-turn)
+    pub open-turn : (least : ℕ) → openTurn (tallyOf stage) least
+        ≡ turnFor (cond (not (leb least mostLeast)) (some field) (cond (noRoom stage) (some many) none)) (gapped phrases phrase gap)
+    unfolding openTurn refusalFor
+    open-turn least = rw (not-at-most, refuses, gap-turn)
 
-  pub end-turn : (phrases : List Phrase) (phrase : Phrase) (count : ℕ) → endTurn (tally (worded phrases phrase)) count at next
-      ≡ turnFor at next (cond (not (eqb count (length (phrases ++ phrase ∷ [])))) (some total) none) (ended (phrases ++ phrase ∷ []))
-  unfolding endTurn tally nameOf phrasesAt piecesAt refusalFor turnFor
-  end-turn phrases phrase count = rw refuses refl
+pub end-turn : (phrases : List Phrase) (phrase : Phrase) (count : ℕ) → endTurn (tallyOf (worded phrases phrase)) count
+    ≡ turnFor (cond (not (eqb count (length (phrases ++ phrase ∷ [])))) (some total) none) (ended (phrases ++ phrase ∷ []))
+unfolding endTurn tallyOf nameOf phrasesAt piecesAt refusalFor turnFor
+end-turn phrases phrase count = rw refuses refl
 
-  module _ (bytes : List ℕ) (phrases : List Phrase) (phrase : Phrase) (gap : Gap) (before : keywordsBefore bytes at ≡ keywords (phrases ++ phrase ∷ [])) where
-    prefixes-with : (x n : ℕ) → length (bytesFrom x n bytes) ≡ n
-        → prefixesWith bytes (tally (gapped phrases phrase gap)) x n at ≡ prefixCount (keywords (phrases ++ phrase ∷ []) ++ bytesFrom x n bytes ∷ [])
-    unfolding prefixesWith tally phrasesAt
-    prefixes-with x n long = rw before (omega (arith, count-further (keywords (phrases ++ phrase ∷ [])) (bytesFrom x n bytes)))
+module _ (at : ℕ) (bytes : List ℕ) (phrases : List Phrase) (phrase : Phrase) (gap : Gap) (before : keywordsBefore bytes at ≡ keywords (phrases ++ phrase ∷ [])) where
+  prefixes-with : (x n : ℕ) → length (bytesFrom x n bytes) ≡ n
+      → prefixesWith bytes (tallyOf (gapped phrases phrase gap)) x n at ≡ prefixCount (keywords (phrases ++ phrase ∷ []) ++ bytesFrom x n bytes ∷ [])
+  unfolding prefixesWith tallyOf phrasesAt
+  prefixes-with x n long = rw before (omega (arith, count-further (keywords (phrases ++ phrase ∷ [])) (bytesFrom x n bytes)))
 
-    pub keyword-turn : (x n : ℕ) → length (bytesFrom x n bytes) ≡ n → keywordTurn bytes (tally (gapped phrases phrase gap)) x n at next
-        ≡ turnFor at next (cond (ltb mostPrefixes (prefixCount (keywords (phrases ++ phrase ∷ []) ++ bytesFrom x n bytes ∷ []))) (some full) none)
-        (worded phrases (withPiece phrase (record { gap = gap; keyword = bytesFrom x n bytes })))
-    unfolding keywordTurn refusalFor turnFor tally phrasesAt piecesAt
-    keyword-turn x n long = rw (prefixes-with x n long, refuses, worded-tally phrases phrase gap (bytesFrom x n bytes))
+  pub keyword-turn : (x n : ℕ) → length (bytesFrom x n bytes) ≡ n → keywordTurn bytes (tallyOf (gapped phrases phrase gap)) x n at
+      ≡ turnFor (cond (ltb mostPrefixes (prefixCount (keywords (phrases ++ phrase ∷ []) ++ bytesFrom x n bytes ∷ []))) (some full) none)
+      (worded phrases (withPiece phrase (record { gap = gap; keyword = bytesFrom x n bytes })))
+  unfolding keywordTurn refusalFor turnFor tallyOf nameOf phrasesAt piecesAt
+  keyword-turn x n long = rw (prefixes-with x n long, refuses, worded-tally phrases phrase gap (bytesFrom x n bytes))

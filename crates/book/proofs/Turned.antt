@@ -9,7 +9,7 @@ use Prim.Native.Nat.{ℕ, _+_, _≤_, _<_}
 use native.Mathlib.Omega.{arith}
 use lib.Dec.{eqb}
 use lib.ListN.{length, take, drop, getD, length-take}
-use borrow.Author.Tests.{eqb-true, lt-leb}
+use borrow.Author.Tests.{eqb-true}
 use Rattle.lent.proofs.Cases.{lt-or-le}
 use Rattle.meaning.specs.Books.{keywords}
 use Rattle.format.specs.Refusals as format
@@ -20,15 +20,16 @@ use Rattle.format.specs.Judged.{onward}
 use Rattle.format.proofs.Tests.{or-cases}
 use Rattle.format.proofs.Bodies.{keyword-only}
 use Rattle.format.proofs.FirstFault.{kind-fault, cut-fault, stands-iff}
-use Rattle.book.specs.declared.records.Found.{Found}
-use Rattle.book.specs.Refusals.{refusalFor}
-use Rattle.book.specs.Records.{known, wholeAt, readAt}
-use Rattle.book.specs.Prefixes.{spanOf, keywordsBefore}
+use Rattle.records.specs.declared.records.Found.{Found}
+use Rattle.records.specs.Refusals.{refusalFor}
+use Rattle.records.specs.Records.{known, wholeAt, readAt}
+use Rattle.records.specs.Readers.{pastOf}
+use Rattle.records.specs.Prefixes.{keywordsBefore}
+use Rattle.records.proofs.Standing.{read-cut, read-whole}
+use Rattle.records.proofs.Shared.{whole-next}
+use Rattle.records.proofs.Walk.{Ends, Walk, walk-further}
 use Rattle.book.specs.Judging.{foundTurn, turnAt}
-use Rattle.book.specs.Tallies.{tally, turnFor}
-use Rattle.book.proofs.Standing.{read-cut, read-whole}
-use Rattle.book.proofs.Shared.{whole-next}
-use Rattle.book.proofs.Walk.{Ends, Walk, walk-further}
+use Rattle.book.specs.Tallies.{nameOf, tallyOf, turnFor}
 use Rattle.book.proofs.Tallied.{allowed-name}
 use Rattle.book.proofs.Agree.{record-agrees}
 
@@ -74,21 +75,21 @@ module _ (bytes : List ℕ) (at : ℕ) (inside : at < length bytes) where
   next = at + (1 + bodyLength (getD bytes at 0))
 
   module _ (stage : Stage) (before : keywordsBefore bytes at ≡ keywords (phrasesAt stage)) where
-    pub turn-agrees : turnAt bytes at (tally stage) ≡ turnFor at next (firstFault stage (k ∷ behind)) (onward stage k body)
-    unfolding turnAt turnFor tally foundTurn refusalFor
+    pub turn-agrees : turnAt bytes at (nameOf stage) (tallyOf stage) (readAt bytes at) ≡ turnFor (firstFault stage (k ∷ behind)) (onward stage k body)
+    unfolding turnAt turnFor foundTurn refusalFor
     turn-agrees = go (allowed stage k) refl
       where
-        found : So (allowed stage k) → foundTurn bytes at (tally stage) (readAt bytes at) ≡ turnFor at next (firstFault stage (k ∷ behind)) (onward stage k body)
+        found : So (allowed stage k) → foundTurn bytes at (tallyOf stage) (readAt bytes at) ≡ turnFor (firstFault stage (k ∷ behind)) (onward stage k body)
         found h = ⊎-elim
-            (λ (short : length behind < bodyLength k). ap (foundTurn bytes at (tally stage)) (sym (read-cut bytes at inside (allowed-known stage k h) short))
-            ∙ ap (λ (o : Option format.Refusal). turnFor at next o (onward stage k body)) (sym (cut-fault stage k behind h short)))
-            (λ (long : bodyLength k ≤ length behind). ap (foundTurn bytes at (tally stage)) (sym (read-whole bytes at inside (allowed-known stage k h) long))
+            (λ (short : length behind < bodyLength k). ap (foundTurn bytes at (tallyOf stage)) (sym (read-cut bytes at inside (allowed-known stage k h) short))
+            ∙ ap (λ (o : Option format.Refusal). turnFor o (onward stage k body)) (sym (cut-fault stage k behind h short)))
+            (λ (long : bodyLength k ≤ length behind). ap (foundTurn bytes at (tallyOf stage)) (sym (read-whole bytes at inside (allowed-known stage k h) long))
             ∙ record-agrees bytes at stage k h before long .turn)
             (lt-or-le (length behind) (bodyLength k))
 
-        go : (v : Bool) → allowed stage k ≡ v → turnAt bytes at (tally stage) ≡ turnFor at next (firstFault stage (k ∷ behind)) (onward stage k body)
-        go true h = rw (lt-leb (length bytes) at inside, allowed-name stage k, h) (found h)
-        go false h = rw (lt-leb (length bytes) at inside, allowed-name stage k, h, kind-fault stage k behind h)
+        go : (v : Bool) → allowed stage k ≡ v → turnAt bytes at (nameOf stage) (tallyOf stage) (readAt bytes at) ≡ turnFor (firstFault stage (k ∷ behind)) (onward stage k body)
+        go true h = rw (allowed-name stage k, h) (found h)
+        go false h = rw (allowed-name stage k, h, kind-fault stage k behind h)
 
     -- A record that stands ends at the next one, and its keyword comes behind those before it.
     module _ (stands : firstFault stage (k ∷ behind) ≡ none) where
@@ -102,7 +103,10 @@ module _ (bytes : List ℕ) (at : ℕ) (inside : at < length bytes) where
       read-it = sym (read-whole bytes at inside (allowed-known stage k (whole .allows)) long)
 
       ends : Ends bytes at next
-      ends = record { ahead = omega arith; there = λ end. ap (λ (found : Found). spanOf end found .next) read-it ∙ whole-next bytes at k end }
+      ends = record { ahead = omega arith; there = λ end. ap (λ (found : Found). pastOf found end) read-it ∙ whole-next bytes at k end }
+
+      pub passed : pastOf (readAt bytes at) at ≡ next
+      passed = ends .there at
 
       pub further : Walk bytes 0 at (keywords (phrasesAt stage)) → Walk bytes 0 next (keywords (phrasesAt (onward stage k body)))
       further walk = rw (record-agrees bytes at stage k (whole .allows) before long .words, ← read-it) (walk-further walk ends)

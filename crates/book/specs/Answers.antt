@@ -4,9 +4,9 @@ use mathlib.Core.List.{List}
 use Prim.Native.Nat.{ℕ}
 use Rattle.format.specs.Refusals.{numberOf}
 use Rattle.format.specs.Judged.{Judgement, Answer, answerOf, judged, Judges}
+use Rattle.records.specs.Refusals.{reasonOf}
 use Rattle.book.specs.declared.answers.Judged.{Judged}
 use Rattle.book.specs.declared.answers.Judged.the-variants.{Accepted, Refused}
-use Rattle.book.specs.Refusals.{reasonOf}
 
 -- Document 01's number, offset and phrases of each case: 0 and the book's length for a book that is accepted, and else the
 -- number of the refusal and the offset of the record, with no phrases.

@@ -4,59 +4,65 @@ ghost use mathlib.Core.Bool.{_||_};
 ghost use lib.Dec.{leb};
 ghost use Rattle.format.specs.Limits.{mostPiecesOfPhrase, mostPieces};
 ghost use Rattle.book.specs.Judging.{gapTurn, boundedTurn, openTurn};
-use crate::answers::Refusal;
 use crate::limits::MOST_LEAST;
 use crate::limits::MOST_MOST;
 use crate::limits::MOST_PIECES;
 use crate::limits::MOST_PIECES_OF_PHRASE;
-use crate::progress::Progress;
 use crate::progress::Stage;
+use crate::progress::Tally;
 use crate::progress::Turn;
-use crate::progress::move_to;
-use crate::turns::refused;
+use records::Refusal;
 
 // Would one piece more be the ninth of its phrase or the 257th of the book?
-fn no_room(progress: Progress) -> bool
-    ensures { λ r. ⌜ r ≡ leb mostPiecesOfPhrase (progress .own) || leb mostPieces (progress .pieces) ⌝ }
+fn no_room(tally: Tally) -> bool
+    ensures { λ r. ⌜ r ≡ leb mostPiecesOfPhrase (tally .own) || leb mostPieces (tally .pieces) ⌝ }
 {
-    progress.own >= MOST_PIECES_OF_PHRASE || progress.pieces >= MOST_PIECES
+    tally.own >= MOST_PIECES_OF_PHRASE || tally.pieces >= MOST_PIECES
 }
 
 // A gap whose fields stand. It is the first record of its piece.
-fn gap(progress: Progress, at: usize, next: usize) -> Turn
-    ensures { λ r. ⌜ r ≡ gapTurn progress at next ⌝ }
+fn gap(tally: Tally) -> Turn
+    ensures { λ r. ⌜ r ≡ gapTurn tally ⌝ }
 {
-    if no_room(progress) {
-        return refused(Refusal::Many, at);
+    if no_room(tally) {
+        return Turn::Refused { why: Refusal::Many };
     }
     Turn::Next {
-        at: next,
-        progress: move_to(progress, Stage::Gapped),
+        stage: Stage::Gapped,
+        tally,
     }
 }
 
-// A bounded gap at an offset, with the offset of the next record.
-pub fn bounded(progress: Progress, least: u16, most: u16, at: usize, next: usize) -> Turn
-    ensures { λ r. ⌜ r ≡ boundedTurn progress least most at next ⌝ }
+// A bounded gap.
+pub fn bounded(tally: Tally, least: u16, most: u16) -> Turn
+    ensures { λ r. ⌜ r ≡ boundedTurn tally least most ⌝ }
 {
     if MOST_LEAST < least {
-        return refused(Refusal::Field, at);
+        return Turn::Refused {
+            why: Refusal::Field,
+        };
     }
     if MOST_MOST < most {
-        return refused(Refusal::Field, at);
+        return Turn::Refused {
+            why: Refusal::Field,
+        };
     }
     if most < least {
-        return refused(Refusal::Crossed, at);
+        return Turn::Refused {
+            why: Refusal::Crossed,
+        };
     }
-    gap(progress, at, next)
+    gap(tally)
 }
 
 // An open gap, the same without a most.
-pub fn open(progress: Progress, least: u16, at: usize, next: usize) -> Turn
-    ensures { λ r. ⌜ r ≡ openTurn progress least at next ⌝ }
+pub fn open(tally: Tally, least: u16) -> Turn
+    ensures { λ r. ⌜ r ≡ openTurn tally least ⌝ }
 {
     if MOST_LEAST < least {
-        return refused(Refusal::Field, at);
+        return Turn::Refused {
+            why: Refusal::Field,
+        };
     }
-    gap(progress, at, next)
+    gap(tally)
 }

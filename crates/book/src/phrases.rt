@@ -4,56 +4,43 @@ ghost use mathlib.Core.Bool.{_&&_};
 ghost use Rattle.format.specs.Limits.{mostNumber, mostRights};
 ghost use Rattle.format.specs.Faults.{between};
 ghost use Rattle.book.specs.Judging.{phraseTurn};
-use crate::answers::Refusal;
-use crate::limits::MOST_NUMBER;
 use crate::limits::MOST_PHRASES;
 use crate::limits::MOST_RIGHTS;
-use crate::progress::Progress;
 use crate::progress::Stage;
+use crate::progress::Tally;
 use crate::progress::Turn;
-use crate::turns::refused;
 use counters::Number;
+use records::Refusal;
 
-// Is a number from low to high, both included?
-fn is_between(low: u16, high: u16, n: u16) -> bool
-    ensures { λ r. ⌜ r ≡ between low high n ⌝ }
+// Are a phrase's number and rights code in range? No number of two bytes is above the largest phrase number.
+fn in_range(number: u16, rights: u8) -> bool
+    ensures { λ r. ⌜ r ≡ between 1 mostNumber number && between 1 mostRights rights ⌝ }
 {
-    low <= n && n <= high
+    1 <= number && 1 <= rights && rights <= MOST_RIGHTS
 }
 
-// Are a phrase's number and rights code in range?
-fn in_range(number: Number, rights: u8) -> bool
-    ensures { λ r. ⌜ r ≡ between 1 mostNumber (number .0) && between 1 mostRights rights ⌝ }
+pub fn phrase(mut tally: Tally, number: Number, rights: u8) -> Turn
+    ensures { λ r. ⌜ r ≡ phraseTurn tally number rights ⌝ }
 {
-    is_between(1, MOST_NUMBER, number.value()) && is_between(1, MOST_RIGHTS, lent::wide(rights))
-}
-
-// A phrase record at an offset, with the offset of the next record.
-pub fn phrase(progress: Progress, number: Number, rights: u8, at: usize, next: usize) -> Turn
-    ensures { λ r. ⌜ r ≡ phraseTurn progress number rights at next ⌝ }
-{
-    if !in_range(number, rights) {
-        return refused(Refusal::Field, at);
-    }
-    let last = progress.last;
     let this = number.value();
-    let before = last.value();
-    let phrases = progress.phrases;
-    if this <= before {
-        return refused(Refusal::Order, at);
+    if !in_range(this, rights) {
+        return Turn::Refused {
+            why: Refusal::Field,
+        };
     }
-    if MOST_PHRASES <= phrases {
-        return refused(Refusal::Many, at);
+    if this <= tally.last {
+        return Turn::Refused {
+            why: Refusal::Order,
+        };
     }
+    if MOST_PHRASES <= tally.phrases {
+        return Turn::Refused { why: Refusal::Many };
+    }
+    tally.phrases += 1;
+    tally.last = this;
+    tally.own = 0;
     Turn::Next {
-        at: next,
-        progress: Progress {
-            stage: Stage::Named,
-            phrases: phrases + 1,
-            last: number,
-            own: 0,
-            pieces: progress.pieces,
-            prefixes: progress.prefixes,
-        },
+        stage: Stage::Named,
+        tally,
     }
 }

@@ -1,13 +1,12 @@
-// How far a book has been read, and what judge keeps of what it has read.
+// How far a book has been read, and what judge counts of what it has read.
 ghost use mathlib.Core.Path.{_≡_};
-ghost use Rattle.book.specs.Judging.{allowedOf, mayStopAt, moved};
-use crate::answers::Judged;
-use crate::kinds::is_gap;
-use crate::kinds::is_keyword;
-use crate::limits::END_KIND;
-use crate::limits::HEADER_KIND;
-use crate::limits::PHRASE_KIND;
-use counters::Number;
+ghost use Rattle.book.specs.Judging.{allowedOf, mayStopAt};
+use records::Refusal;
+use records::kinds::END_KIND;
+use records::kinds::HEADER_KIND;
+use records::kinds::PHRASE_KIND;
+use records::kinds::is_gap;
+use records::kinds::is_keyword;
 
 // What was read last.
 pub enum Stage {
@@ -25,12 +24,11 @@ pub enum Stage {
     Ended,
 }
 
-// What is kept of the records read so far: counts, and one number.
-pub struct Progress {
-    pub stage: Stage,
+// What is counted of the records read so far, and one number.
+pub struct Tally {
     // The phrases, the last one perhaps not whole, and the number of that one, 0 where there is none.
     pub phrases: usize,
-    pub last: Number,
+    pub last: u16,
     // The whole pieces of the last phrase, and those of the book.
     pub own: usize,
     pub pieces: usize,
@@ -38,25 +36,10 @@ pub struct Progress {
     pub prefixes: usize,
 }
 
-// What comes of a record: on to the next one, or done.
+// What comes of a record: it stands, and leads to this stage and tally, or it is refused.
 pub enum Turn {
-    Next { at: usize, progress: Progress },
-    Done { judged: Judged },
-}
-
-// The same at another stage.
-pub fn move_to(progress: Progress, stage: Stage) -> Progress
-    ensures { λ r. ⌜ r ≡ moved progress stage ⌝ }
-{
-    let last = progress.last;
-    Progress {
-        stage,
-        phrases: progress.phrases,
-        last,
-        own: progress.own,
-        pieces: progress.pieces,
-        prefixes: progress.prefixes,
-    }
+    Next { stage: Stage, tally: Tally },
+    Refused { why: Refusal },
 }
 
 // After a keyword the phrase may end, and so may the book.
@@ -89,11 +72,7 @@ pub fn may_stop(stage: Stage) -> bool
     ensures { λ r. ⌜ r ≡ mayStopAt stage ⌝ }
 {
     match stage {
-        Stage::Start => false,
-        Stage::Headed => false,
-        Stage::Named => false,
-        Stage::Gapped => false,
-        Stage::Worded => false,
         Stage::Ended => true,
+        _ => false,
     }
 }

@@ -3,105 +3,79 @@
 ghost use mathlib.Core.Path.{_≡_};
 ghost use Prim.Native.Nat.{_+_, _≤_};
 ghost use lib.ListN.{length};
-ghost use Rattle.book.specs.Judging.{Small, refuse, headerTurn, keywordTurn, endTurn, stopTurn};
+ghost use Rattle.book.specs.Judging.{Small, headerTurn, keywordTurn, endTurn, stopAnswer};
 use crate::answers::Judged;
-use crate::answers::Refusal;
 use crate::limits::MOST_PREFIXES;
 use crate::limits::THE_EDITION;
-use crate::prefixes::new_prefixes;
-use crate::progress::Progress;
 use crate::progress::Stage;
+use crate::progress::Tally;
 use crate::progress::Turn;
 use crate::progress::may_stop;
-use crate::progress::move_to;
+use records::Refusal;
+use records::most_shared;
 
-// The record at an offset is refused, and that is the answer.
-pub fn refused(why: Refusal, at: usize) -> Turn
-    ensures { λ r. ⌜ r ≡ refuse why at ⌝ }
-{
-    Turn::Done {
-        judged: Judged::Refused { why, at },
-    }
-}
-
-// A header at an offset, with the offset of the next record.
-pub fn header(progress: Progress, edition: u8, at: usize, next: usize) -> Turn
-    ensures { λ r. ⌜ r ≡ headerTurn progress edition at next ⌝ }
+pub fn header(tally: Tally, edition: u8) -> Turn
+    ensures { λ r. ⌜ r ≡ headerTurn tally edition ⌝ }
 {
     if edition != THE_EDITION {
-        return refused(Refusal::Field, at);
+        return Turn::Refused {
+            why: Refusal::Field,
+        };
     }
     Turn::Next {
-        at: next,
-        progress: move_to(progress, Stage::Headed),
+        stage: Stage::Headed,
+        tally,
     }
 }
 
-// A keyword of `count` bytes from `start` on. It ends its piece, which is counted here.
-pub fn keyword(
-    book: &[u8],
-    progress: Progress,
-    start: usize,
-    count: usize,
-    at: usize,
-    next: usize,
-) -> Turn
-    requires { ⌜ Small progress ⌝ }
+// A keyword of `count` bytes from `start` on, whose record is at an offset. Prefixes that it shares with an earlier keyword are not
+// new. It ends its piece, which is counted here.
+pub fn keyword(book: &[u8], mut tally: Tally, start: usize, count: usize, at: usize) -> Turn
+    requires { ⌜ Small tally ⌝ }
     requires { ⌜ start + count ≤ length (now book) ⌝ }
     requires { ⌜ at ≤ length (now book) ⌝ }
-    ensures { λ r. ⌜ r ≡ keywordTurn (now (book .entry)) progress start count at next ⌝ }
+    ensures { λ r. ⌜ r ≡ keywordTurn (now (book .entry)) tally start count at ⌝ }
 {
-    let prefixes = progress.prefixes + new_prefixes(book, at, start, count);
-    if prefixes > MOST_PREFIXES {
-        return refused(Refusal::Full, at);
+    tally.prefixes += count - most_shared(book, at, start, count);
+    if MOST_PREFIXES < tally.prefixes {
+        return Turn::Refused { why: Refusal::Full };
     }
-    let last = progress.last;
+    tally.own += 1;
+    tally.pieces += 1;
     Turn::Next {
-        at: next,
-        progress: Progress {
-            stage: Stage::Worded,
-            phrases: progress.phrases,
-            last,
-            own: progress.own + 1,
-            pieces: progress.pieces + 1,
-            prefixes,
-        },
+        stage: Stage::Worded,
+        tally,
     }
 }
 
 // An end record. Its number has no range of its own: any wrong one is a wrong total.
-pub fn end(progress: Progress, count: u16, at: usize, next: usize) -> Turn
-    ensures { λ r. ⌜ r ≡ endTurn progress count at next ⌝ }
+pub fn end(mut tally: Tally, count: u16) -> Turn
+    ensures { λ r. ⌜ r ≡ endTurn tally count ⌝ }
 {
-    if lent::pair_size(count) != progress.phrases {
-        return refused(Refusal::Total, at);
+    if lent::pair_size(count) != tally.phrases {
+        return Turn::Refused {
+            why: Refusal::Total,
+        };
     }
-    let last = progress.last;
+    tally.own = 0;
     Turn::Next {
-        at: next,
-        progress: Progress {
-            stage: Stage::Ended,
-            phrases: progress.phrases,
-            last,
-            own: 0,
-            pieces: progress.pieces,
-            prefixes: progress.prefixes,
-        },
+        stage: Stage::Ended,
+        tally,
     }
 }
 
-// The book stops here.
-pub fn stop(progress: Progress, at: usize) -> Turn
-    ensures { λ r. ⌜ r ≡ stopTurn progress at ⌝ }
+// The book stops at an offset.
+pub fn stop(stage: Stage, tally: Tally, at: usize) -> Judged
+    ensures { λ r. ⌜ r ≡ stopAnswer stage tally at ⌝ }
 {
-    let stage = progress.stage;
     if !may_stop(stage) {
-        return refused(Refusal::Cut, at);
+        return Judged::Refused {
+            why: Refusal::Cut,
+            at,
+        };
     }
-    Turn::Done {
-        judged: Judged::Accepted {
-            length: at,
-            phrases: progress.phrases,
-        },
+    Judged::Accepted {
+        length: at,
+        phrases: tally.phrases,
     }
 }

@@ -12,8 +12,8 @@ use Rattle.lent.proofs.Cases.{lt-or-le}
 use Rattle.format.specs.Judged.{Judgement, accepted, refused}
 use Rattle.format.proofs.Theorem.{judges-once}
 use Rattle.format.proofs.Answers.{number-range, number-once}
-use Rattle.book.specs.Refusals.{reasonOf, refusalFor}
-use Rattle.book.proofs.Once.{reason-back}
+use Rattle.records.specs.Refusals.{reasonOf, refusalFor}
+use Rattle.records.proofs.Names.{reason-back}
 use Rattle.tables.specs.Layout.{tablesSize, tablesLayout}
 use Rattle.tables.proofs.Once.{laid-once, tables-tiled}
 use Rattle.builder.specs.declared.answers.Built.{Built}

@@ -8,8 +8,8 @@ use native.Mathlib.Omega.{arith}
 use lib.ListN.{length}
 use Rattle.format.specs.Judged.{Judgement, accepted, refused, Judges}
 use Rattle.format.proofs.Answers.{number-range}
-use Rattle.book.specs.declared.answers.Refusal.{Refusal}
-use Rattle.book.specs.Refusals.{reasonOf}
+use Rattle.records.specs.declared.refusals.Refusal.{Refusal}
+use Rattle.records.specs.Refusals.{reasonOf}
 use Rattle.tables.specs.Layout.{tablesSize}
 use Rattle.tables.specs.Passing.{tablesPass}
 use Rattle.tables.proofs.Passing.{laid-pass, zero-fails}

@@ -14,8 +14,8 @@ use Rattle.format.specs.Refusals as format
 use Rattle.format.specs.Refusals.{numberOf}
 use Rattle.format.specs.Judged.{Judgement, accepted, refused, judged, AcceptedAs, Judges}
 use Rattle.format.proofs.Theorem.{judged-judges}
-use Rattle.book.proofs.Bytes.{all-bytes}
-use Rattle.book.proofs.Reading.{refusal-said}
+use Rattle.records.proofs.Bytes.{all-bytes}
+use Rattle.records.proofs.Names.{refusal-said}
 use Rattle.tables.specs.Layout.{tablesSize}
 use Rattle.builder.specs.declared.answers.Built.{Built}
 use Rattle.builder.specs.declared.answers.Built.the-variants.{TooSmall}

@@ -9,11 +9,11 @@ use Rattle.lent.specs.Numbers.{Bytes}
 use Rattle.meaning.specs.Books.{Book}
 use Rattle.format.specs.Judged.{Judgement, accepted, refused, Answer, answerOf, judged}
 use Rattle.format.proofs.Answers.{number-range, number-once}
-use Rattle.book.specs.declared.answers.Refusal.{Refusal}
+use Rattle.records.specs.declared.refusals.Refusal.{Refusal}
 use Rattle.book.specs.declared.answers.Judged.the-variants.{Accepted, Refused}
-use Rattle.book.specs.Refusals.{reasonOf}
+use Rattle.records.specs.Refusals.{reasonOf}
 use Rattle.book.specs.Answers.{saidBy, JudgedRight}
-use Rattle.book.proofs.Once.{reason-back}
+use Rattle.records.proofs.Names.{reason-back}
 use Rattle.book.proofs.Answered.{accepted-means}
 use Rattle.tables.specs.Layout.{tablesSize}
 use Rattle.builder.specs.declared.answers.Built.the-variants as built

@@ -2,7 +2,7 @@
 use Prim.Native.Nat.{ℕ}
 use Rattle.format.specs.Refusals.{numberOf}
 use Rattle.format.specs.Judged.{Judgement, accepted, refused}
-use Rattle.book.specs.Refusals.{reasonOf}
+use Rattle.records.specs.Refusals.{reasonOf}
 use Rattle.builder.specs.declared.answers.Built.{Built}
 use Rattle.builder.specs.declared.answers.Built.the-variants.{Done, TooSmall, Refused}
 

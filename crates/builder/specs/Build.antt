@@ -8,7 +8,7 @@ use lib.Dec.{ltb}
 use lib.ListN.{length, getD}
 use Rattle.lent.specs.Zeros.{withZeros}
 use Rattle.format.specs.Judged.{Judgement, accepted, refused, judged, Judges}
-use Rattle.book.specs.Refusals.{refusalFor}
+use Rattle.records.specs.Refusals.{refusalFor}
 use Rattle.tables.specs.Regions.{Laid}
 use Rattle.tables.specs.Layout.{tablesSize, tablesLayout}
 use Rattle.builder.specs.declared.answers.Built.{Built}

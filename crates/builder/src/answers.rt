@@ -1,7 +1,7 @@
 // What build answers. Document 01's number and offset of each case stand in the specification.
 ghost use mathlib.Core.Path.{_≡_};
 ghost use Rattle.builder.specs.Answers.{saidBy};
-use book::Refusal;
+use records::Refusal;
 
 pub enum Built {
     // the book, of so many bytes, is accepted: the lent memory holds its tables

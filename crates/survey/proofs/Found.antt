@@ -14,10 +14,10 @@ use Rattle.format.specs.Limits.{longestKeyword}
 use Rattle.format.specs.Written.{headerKind, phraseKind, boundedKind, openKind, endKind}
 use Rattle.format.specs.Faults.{isKeyword, bodyLength}
 use Rattle.format.proofs.FirstFault.{keyword-range, keyword-length}
-use Rattle.book.proofs.records.Found.{the-type}
-use Rattle.book.specs.declared.records.Found.{Found}
-use Rattle.book.specs.declared.records.Found.the-variants.{Header, Phrase, Bounded, Open, Keyword, End, Refused}
-use Rattle.book.specs.Records.{known, whole, nothing, bodyAt, foundFor, foundAs, readAt}
+use Rattle.records.proofs.records.Found.{the-type}
+use Rattle.records.specs.declared.records.Found.{Found}
+use Rattle.records.specs.declared.records.Found.the-variants.{Header, Phrase, Bounded, Open, Keyword, End, Refused}
+use Rattle.records.specs.Records.{known, whole, nothing, bodyAt, foundFor, foundAs, readAt}
 use Rattle.survey.specs.Turns.{isGap}
 
 -- ── Gaps ──

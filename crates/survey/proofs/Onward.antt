@@ -2,17 +2,18 @@
 use mathlib.Core.Path.{_≡_, refl, sym, ap, subst, _∙_}
 use mathlib.Core.Bool.{Bool, true, false, cond}
 use mathlib.Core.List.{List}
-use Prim.Native.Nat.{ℕ, _+_, _≤_, _<_}
+use Prim.Native.Nat.{ℕ, _<_}
 use native.Mathlib.Omega.{arith}
 use lib.Dec.{ltb}
 use lib.ListN.{length, set}
 use borrow.Author.Tests.{lt-ltb, le-ltb}
 use Rattle.tables.specs.Layout.{roomForPieces, roomForPhrases}
-use Rattle.book.specs.declared.records.Found.{Found}
-use Rattle.book.specs.declared.records.Found.the-variants.{Header, Phrase, Bounded, Open, Keyword, End, Refused}
-use Rattle.book.specs.Records.{readAt}
-use Rattle.book.specs.Prefixes.{spanOf}
-use Rattle.book.proofs.Shared.{span-ahead, span-inside}
+use Rattle.records.specs.declared.records.Found.{Found}
+use Rattle.records.specs.declared.records.Found.the-variants.{Header, Phrase, Bounded, Open, Keyword, End, Refused}
+use Rattle.records.specs.Records.{readAt}
+use Rattle.records.specs.Readers.{pastOf}
+use Rattle.records.specs.Prefixes.{Inside}
+use Rattle.records.proofs.Shared.{read-inside, goes-ahead}
 use Rattle.counters.specs.declared.Number.{Number}
 use Rattle.counters.specs.declared.Rank.{Rank}
 use Rattle.counters.specs.Counters.{rankOf}
@@ -37,8 +38,8 @@ module _ (bytes : List ℕ) (now : Reading) {found told : Found} (is : found ≡
   turned left = left ∙ turn-told
 
   -- A keyword lies in the book,
-  pub inside-told : spanOf 0 told .start + spanOf 0 told .count ≤ length bytes
-  inside-told = span-inside bytes (now .progress .at) 0 (spanOf 0 told) (ap (spanOf 0) (sym tells ∙ is))
+  pub inside-told : Inside bytes told
+  inside-told = subst (Inside bytes) (sym is ∙ tells) (read-inside bytes (now .progress .at))
 
   -- and is short.
   pub short-told : Short told
@@ -97,7 +98,7 @@ module _ (bytes : List ℕ) (now : Reading) where
       either (λ later. Arrives now later (word .next)) (ltb (now .progress .pieces) roomForPieces)
       (record { there = refl; long = length-withPiece (now .progress .pieces) (entryFor bytes (now .progress) word) (now .notes .tables) }) (record { there = refl; long = refl })
 
-  found-on : (found : Found) → Arrives now (turnFor bytes now found) (spanOf (length bytes) found .next)
+  found-on : (found : Found) → Arrives now (turnFor bytes now found) (pastOf found (length bytes))
   found-on (Header edition next) = record { there = refl; long = refl }
   found-on (Phrase number rights next) = phrase-on number rights (next .at)
   found-on (Bounded least most next) = record { there = refl; long = refl }
@@ -111,7 +112,7 @@ module _ (bytes : List ℕ) (now : Reading) where
   unfolding turnAt
   turn-ahead more =
       let found : Found = readAt bytes (now .progress .at) in
-      omega (arith, found-on found .there, span-ahead bytes (now .progress .at) (length bytes) (spanOf (length bytes) found) refl more)
+      omega (arith, found-on found .there, goes-ahead bytes (now .progress .at) (length bytes) refl refl more)
 
   -- and leaves the table memory as long as it was.
   pub turn-long : length (turnAt bytes now .notes .tables) ≡ length (now .notes .tables)

@@ -13,10 +13,10 @@ use Rattle.format.specs.Written.{headerKind, phraseKind, boundedKind, openKind,
 use Rattle.format.specs.Faults.{bodyLength, two, isKeyword}
 use Rattle.format.proofs.FirstFault.{keyword-is, keyword-only, keyword-length}
 use Rattle.format.proofs.Records.{two-read}
-use Rattle.book.specs.declared.records.Found.{Found}
-use Rattle.book.specs.declared.records.Found.the-variants as found
-use Rattle.book.specs.Records.{known, cursorAt, bodyAt, foundFor, wholeAt, readAt}
-use Rattle.book.proofs.Standing.{read-whole}
+use Rattle.records.specs.declared.records.Found.{Found}
+use Rattle.records.specs.declared.records.Found.the-variants as found
+use Rattle.records.specs.Records.{known, cursorAt, bodyAt, foundFor, wholeAt, readAt}
+use Rattle.records.proofs.Standing.{read-whole}
 use Rattle.counters.specs.Counters.{numberOf}
 use Rattle.survey.specs.Meant.{Located}
 

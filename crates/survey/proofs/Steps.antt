@@ -11,9 +11,9 @@ use Rattle.meaning.specs.Windows.{leastOf, delay}
 use Rattle.format.specs.Limits.{GapWithin, PieceWithin}
 use Rattle.format.specs.Written.{writtenHeader, writtenName, writtenGap, writtenKeyword, writtenEnd}
 use Rattle.format.proofs.Lists.{length-further}
-use Rattle.book.specs.declared.records.Found.{Found}
-use Rattle.book.specs.declared.records.Found.the-variants as found
-use Rattle.book.specs.Records.{cursorAt}
+use Rattle.records.specs.declared.records.Found.{Found}
+use Rattle.records.specs.declared.records.Found.the-variants as found
+use Rattle.records.specs.Records.{cursorAt}
 use Rattle.counters.specs.Counters.{numberOf, rankOf}
 use Rattle.tables.specs.Spots.{Spot, none-left}
 use Rattle.tables.specs.Layout.{roomForPieces, roomForPhrases, gapSpan, spotEnds}

@@ -4,9 +4,9 @@ use mathlib.Core.List.{List}
 use Prim.Native.Nat.{ℕ, _+_, _-_, _%_}
 use lib.Dec.{ltb}
 use lib.ListN.{length, set}
-use Rattle.book.specs.declared.records.Found.{Found}
-use Rattle.book.specs.declared.records.Found.the-variants.{Header, Phrase, Bounded, Open, Keyword, End, Refused}
-use Rattle.book.specs.Records.{readAt}
+use Rattle.records.specs.declared.records.Found.{Found}
+use Rattle.records.specs.declared.records.Found.the-variants.{Header, Phrase, Bounded, Open, Keyword, End, Refused}
+use Rattle.records.specs.Records.{readAt}
 use Rattle.counters.specs.declared.Number.{Number}
 use Rattle.counters.specs.Counters.{rankOf}
 use Rattle.tables.specs.Layout.{roomForPieces, roomForPhrases}

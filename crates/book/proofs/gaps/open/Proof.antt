@@ -5,12 +5,9 @@ use Rattle.book.specs.Judging.{openTurn}
 use Rattle.book.proofs.gaps.open.Statement.{statement}
 use Rattle.book.proofs.gaps.open.Tie as tie
 
-refused-requires : tie.Need-refused-requires
-refused-requires c κs = search needs
-
 returns : tie.Need-returns
 unfolding openTurn
-returns c = rw (lt-ltb _ _ (c .before .if1 .taken)) (c .refused .ensures)
+returns c = rw (lt-ltb _ _ (c .if1 .taken))
 
 gap-requires : tie.Need-gap-requires
 gap-requires c κs = search needs
@@ -20,4 +17,9 @@ unfolding openTurn
 returns-2 c = rw (le-ltb _ _ (c .before .if1 .left)) (c .gap .ensures)
 
 pub open-spec : {M : Type 1} → statement M
-open-spec = tie.close (tie.spec refused-requires returns gap-requires returns-2)
+open-spec =
+    tie.close
+    (tie.spec
+    returns
+    gap-requires
+    returns-2)

@@ -1,42 +1,29 @@
--- The number is looked at first, then the rights code. Assumes nothing.
-use mathlib.Core.Path.{ap, _∙_}
-use borrow.Author.Needs.{needs}
+-- The number is looked at first, then the rights code; a number of two bytes is never too large. Assumes nothing.
+use mathlib.Core.Path.{_≡_}
+use mathlib.Core.Logic.{⊎-elim, inl, inr}
+use mathlib.Core.Bool.{true, _&&_}
+use native.Mathlib.Omega.{arith}
+use lib.Dec.{leb}
+use borrow.Author.Tests.{le-leb}
 use Rattle.format.specs.Limits.{mostNumber, mostRights}
 use Rattle.format.specs.Faults.{between}
-use Rattle.book.proofs.Tests.{first-test, second-test}
+use Rattle.book.proofs.Tests.{three-hold, three-fail, both-above}
 use Rattle.book.proofs.phrases.in_range.Statement.{statement}
 use Rattle.book.proofs.phrases.in_range.Tie as tie
 
-value-requires : tie.Need-value-requires
-value-requires c κs = search needs
+two-tests : (c : tie.Joined1) → c .if1 .if2 ≡ leb 1 (c .before .args .number) && leb 1 (c .before .args .rights)
+two-tests c = both-above 1 (c .before .args .number) (c .before .args .rights) (⊎-elim (λ w. inl (w .0 .taken, w .1)) (λ w. inr (w .0 .left, w .1)) (c .if1 .came))
 
-is-between-requires : tie.Need-is-between-requires
-is-between-requires c κs = search needs
-
-wide-requires : tie.Need-wide-requires
-wide-requires c κs = search needs
-
-is-between-requires-2 : tie.Need-is-between-requires-2
-is-between-requires-2 c κs = search needs
+never-large : (c : tie.Joined1) → leb (c .before .args .number) mostNumber ≡ true
+never-large c = le-leb (c .before .args .number) mostNumber (omega (arith, c .before .fits .number .fits))
 
 returns : tie.Need-returns
-returns c =
-    let number = c .before .before .before in
-    second-test (number .is-between .ensures ∙ ap (between 1 mostNumber) (number .before .value .ensures)) (c .before .before .if1 .taken)
-    (c .is-between2 .ensures ∙ ap (between 1 mostRights) (c .before .wide .ensures .0))
+unfolding between
+returns c = three-hold (leb (c .before .before .args .rights) mostRights) (never-large (c .before)) (leb 1 (c .before .before .args .number)) (leb 1 (c .before .before .args .rights)) (two-tests (c .before)) (c .if2 .taken)
 
 returns-2 : tie.Need-returns-2
-returns-2 c =
-    first-test (between 1 mostRights (c .before .before .before .args .rights))
-    (c .before .is-between .ensures ∙ ap (between 1 mostNumber) (c .before .before .value .ensures)) (c .if1 .left)
+unfolding between
+returns-2 c = three-fail (leb (c .before .before .args .rights) mostRights) (never-large (c .before)) (leb 1 (c .before .before .args .number)) (leb 1 (c .before .before .args .rights)) (two-tests (c .before)) (c .if2 .left)
 
 pub in-range-spec : {M : Type 1} → statement M
-in-range-spec =
-    tie.close
-    (tie.spec
-    value-requires
-    is-between-requires
-    wide-requires
-    is-between-requires-2
-    returns
-    returns-2)
+in-range-spec = tie.close (tie.spec returns returns-2)

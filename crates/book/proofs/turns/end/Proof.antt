@@ -9,16 +9,18 @@ use Rattle.book.proofs.turns.end.Tie as tie
 pair-size-requires : tie.Need-pair-size-requires
 pair-size-requires c κs = search needs
 
-refused-requires : tie.Need-refused-requires
-refused-requires c κs = search needs
-
 returns : tie.Need-returns
 unfolding endTurn
-returns c = let size = c .before .before .before .pair-size in rw (ne-eqb _ _ (λ e. c .before .if1 .taken (size .ensures .0 ∙ e))) (c .refused .ensures)
+returns c = rw (ne-eqb _ _ (λ e. c .if1 .taken (c .before .before .pair-size .ensures .0 ∙ e)))
 
 returns-2 : tie.Need-returns-2
 unfolding endTurn
-returns-2 c = let size = c .before .before .before .pair-size in rw (eq-eqb _ _ (sym (size .ensures .0) ∙ c .before .if1 .left))
+returns-2 c = rw (eq-eqb _ _ (sym (c .before .before .pair-size .ensures .0) ∙ c .if1 .left))
 
 pub end-spec : {M : Type 1} → statement M
-end-spec = tie.close (tie.spec pair-size-requires refused-requires returns returns-2)
+end-spec =
+    tie.close
+    (tie.spec
+    pair-size-requires
+    returns
+    returns-2)

@@ -2,7 +2,7 @@
 use mathlib.Core.Path.{_≡_, refl, ap, _∙_}
 use native.Mathlib.Omega.{arith}
 use borrow.Author.Needs.{needs}
-use Rattle.book.specs.declared.records.Found.{Found}
+use Rattle.records.specs.declared.records.Found.{Found}
 use Rattle.survey.specs.declared.progress.Progress.{Progress}
 use Rattle.survey.specs.Turns.{noted, Reading, reading, turnFor, turnAt}
 use Rattle.survey.proofs.Onward.{turned, inside-told, short-told}

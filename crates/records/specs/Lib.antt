@@ -1,0 +1,4 @@
+pub mod Refusals
+pub mod Records
+pub mod Readers
+pub mod Prefixes
