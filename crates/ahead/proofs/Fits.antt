@@ -10,7 +10,7 @@ use native.Mathlib.Omega.{arith}
 use borrow.Author.Tests.{lt-ltb, le-ltb, leb-true}
 use Rattle.lent.proofs.Cases.{lt-or-le, eq-or-ne}
 use Rattle.tables.specs.Reads.{denseIn, columnIn}
-use Rattle.gliding.specs.Quick.{lastColumn}
+use Rattle.seeking.specs.Quick.{lastColumn}
 use Rattle.ahead.specs.Columns.{larger, farthest, columnsFit}
 
 module _ (a b : ℕ) where

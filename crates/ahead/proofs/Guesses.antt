@@ -5,7 +5,7 @@ use mathlib.Core.List.{List}
 use Prim.Native.Nat.{ℕ, _+_, _-_, _*_, _≤_, _<_}
 use native.Mathlib.Omega.{arith}
 use Rattle.tables.specs.Reads.{stateCountIn}
-use Rattle.gliding.specs.Foreseen.{afterFrom}
+use Rattle.seeking.specs.Foreseen.{afterFrom}
 use Rattle.ahead.specs.Cursors.{cursor}
 use Rattle.ahead.specs.Ahead.{Ran, guess, Guessed}
 use Rattle.ahead.specs.declared.turn.Cursors.{Cursors}

@@ -6,8 +6,8 @@ use Prim.Native.Nat.{ℕ, _+_, _*_, _≤_, _<_}
 use native.Mathlib.Omega.{arith}
 use lib.ListN.{length, getD}
 use Rattle.tables.specs.Reads.{stateCountIn}
-use Rattle.gliding.specs.Foreseen.{afterFrom, Looked}
-use Rattle.gliding.proofs.Foreseen.{after-add, after-inside}
+use Rattle.seeking.specs.Foreseen.{afterFrom, Looked}
+use Rattle.seeking.proofs.Foreseen.{after-add, after-inside}
 use Rattle.ahead.specs.Ahead.{Listed, KeptFrom, RunReady, Ran, AgainReady, Mended, LookReady}
 use Rattle.ahead.specs.declared.turn.Cursors.{Cursors}
 use Rattle.ahead.proofs.Turns.{each-quarter}

@@ -9,9 +9,9 @@ use lib.ListN.{length, getD, set, length-set}
 use lib.Seq.{getD-set-same, getD-set-other}
 use Rattle.lent.proofs.Cases.{eq-or-ne}
 use Rattle.tables.specs.Reads.{stateCountIn, denseIn}
-use Rattle.gliding.specs.Quick.{quickIn}
-use Rattle.gliding.specs.Foreseen.{afterFrom}
-use Rattle.gliding.proofs.Foreseen.{after-more}
+use Rattle.seeking.specs.Quick.{quickIn}
+use Rattle.seeking.specs.Foreseen.{afterFrom}
+use Rattle.seeking.proofs.Foreseen.{after-more}
 use Rattle.ahead.specs.Cursors.{cursor, Below, Turned, withFour}
 use Rattle.ahead.specs.Ahead.{Listed, KeptFrom, Ran, Mended}
 use Rattle.ahead.specs.declared.turn.Cursors.{Cursors}

@@ -10,9 +10,9 @@ use lib.ListN.{length, getD, set, length-set}
 use lib.Seq.{getD-set-same, getD-set-other}
 use Rattle.tables.specs.Layout.{roomForStates}
 use Rattle.tables.specs.Reads.{Whole, denseIn, columnIn, cellIn}
-use Rattle.gliding.specs.Quick.{soughtIn, quickIn}
-use Rattle.gliding.proofs.Seeking.{row-cell, sought-dense}
-use Rattle.gliding.proofs.Turns.{quick-found, quick-inside}
+use Rattle.seeking.specs.Quick.{soughtIn, quickIn}
+use Rattle.seeking.proofs.Seeking.{row-cell, sought-dense}
+use Rattle.seeking.proofs.Found.{quick-found, quick-inside}
 use Rattle.ahead.specs.Columns.{columnsFit}
 use Rattle.ahead.specs.Cursors.{cursor, Below, ColumnOf, Turned, withFour}
 use Rattle.ahead.specs.declared.turn.Cursors.{Cursors}

@@ -6,7 +6,7 @@ use Prim.Native.Nat.{ℕ, _+_, _-_, _*_, _≤_, _<_}
 use lib.ListN.{length, getD}
 use Rattle.tables.specs.Layout.{roomForStates}
 use Rattle.tables.specs.Reads.{Whole, stateCountIn, denseIn}
-use Rattle.gliding.specs.Foreseen.{afterFrom}
+use Rattle.seeking.specs.Foreseen.{afterFrom}
 use Rattle.ahead.specs.Columns.{columnsFit}
 use Rattle.ahead.specs.Cursors.{cursor, Below}
 use Rattle.ahead.specs.declared.turn.Cursors.{Cursors}

@@ -4,7 +4,7 @@ use mathlib.Core.List.{List}
 use Prim.Native.Nat.{ℕ, zero, suc}
 use lib.Dec.{ltb, leb}
 use Rattle.tables.specs.Reads.{denseIn, columnIn}
-use Rattle.gliding.specs.Quick.{lastColumn}
+use Rattle.seeking.specs.Quick.{lastColumn}
 
 -- The larger of two numbers.
 unfoldable pub larger : ℕ → ℕ → ℕ

@@ -6,7 +6,7 @@ use Prim.Native.Nat.{ℕ, zero, suc, _+_, _*_, _≤_, _<_}
 use lib.ListN.{length, getD, set}
 use Rattle.tables.specs.Layout.{roomForStates}
 use Rattle.tables.specs.Reads.{Whole, stateCountIn, denseIn, columnIn}
-use Rattle.gliding.specs.Quick.{soughtIn, quickIn}
+use Rattle.seeking.specs.Quick.{soughtIn, quickIn}
 use Rattle.ahead.specs.Columns.{columnsFit}
 use Rattle.ahead.specs.declared.turn.Columns.{Columns}
 use Rattle.ahead.specs.declared.turn.Cursors.{Cursors}

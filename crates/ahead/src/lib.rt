@@ -5,7 +5,7 @@ ghost use Prim.Native.Nat.{_+_, _*_, _≤_, _<_};
 ghost use lib.ListN.{length};
 ghost use Rattle.tables.specs.Layout.{roomForStates};
 ghost use Rattle.tables.specs.Reads.{stateCountIn};
-ghost use Rattle.gliding.specs.Foreseen.{afterFrom, Looked};
+ghost use Rattle.seeking.specs.Foreseen.{afterFrom, Looked};
 ghost use Rattle.ahead.specs.Cursors.{Below, withFour};
 ghost use Rattle.ahead.specs.Ahead.{Listed, KeptFrom, RunReady, Ran, Guessed, AgainReady, Mended, LookReady};
 use counters::State;

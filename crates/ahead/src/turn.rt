@@ -6,7 +6,7 @@ ghost use lib.Dec.{ltb};
 ghost use lib.ListN.{length};
 ghost use Rattle.tables.specs.Layout.{roomForStates};
 ghost use Rattle.tables.specs.Reads.{Whole, cellIn};
-ghost use Rattle.gliding.specs.Quick.{quickIn};
+ghost use Rattle.seeking.specs.Quick.{quickIn};
 ghost use Rattle.ahead.specs.Cursors.{Below, ColumnOf, TurnReady, Columned, Found, Turned};
 
 // Where the four cursors stand: the index of a state each.
@@ -114,7 +114,7 @@ pub fn next_of(
     if index < dense {
         return state_or_root(states, cell_of(t, column, index));
     }
-    state_or_root(states, gliding::sought(t, states, dense, index, byte))
+    state_or_root(states, seeking::sought(t, states, dense, index, byte))
 }
 
 // One turn where some state has no row.

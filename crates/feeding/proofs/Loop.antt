@@ -15,8 +15,8 @@ use Rattle.window.specs.Happened.{Here, hereWith, happened}
 use Rattle.window.proofs.Happened.{happened-few}
 use Rattle.gliding.specs.declared.Way.{Way}
 use Rattle.gliding.specs.Glide.{glideIn, goneBy, glideOf, GlideReady, GlideKept}
-use Rattle.gliding.specs.Foreseen.{afterFrom, Foreseen}
-use Rattle.gliding.proofs.Foreseen.{foreseen-on}
+use Rattle.seeking.specs.Foreseen.{afterFrom, Foreseen}
+use Rattle.seeking.proofs.Foreseen.{foreseen-on}
 use Rattle.feeding.specs.Taken.{Run, runOf, progressOn, wayFrom, freeAfter, partTaken, toCome}
 use Rattle.feeding.specs.Ready.{ReadyOn, KeptOn, Took}
 use Rattle.feeding.specs.declared.Progress.{Progress}

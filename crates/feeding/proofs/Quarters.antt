@@ -13,8 +13,8 @@ use lib.Seq.{length-take-le, getD-take}
 use mir.Syntax.{w64}
 use mir.Val.{Fits}
 use borrow.Author.Tests.{leb-true}
-use Rattle.gliding.specs.Foreseen.{afterFrom}
-use Rattle.gliding.proofs.Foreseen.{looked-quarter}
+use Rattle.seeking.specs.Foreseen.{afterFrom}
+use Rattle.seeking.proofs.Foreseen.{looked-quarter}
 use Rattle.feeding.specs.Taken.{runOf}
 use Rattle.feeding.specs.Ready.{Took, QuarterReady, QuartersReady}
 use Rattle.feeding.specs.declared.Progress.{Progress}

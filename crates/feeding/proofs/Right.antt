@@ -22,8 +22,8 @@ use Rattle.tables.specs.Regions.{Laid}
 use Rattle.tables.specs.Layout.{tablesLayout}
 use Rattle.tables.specs.Reads.{stateCountIn, denseIn, phraseCountIn, depthIn, gainIn}
 use Rattle.tables.proofs.Fields.{phrase-count-laid}
-use Rattle.gliding.specs.Quick.{quickIn}
-use Rattle.gliding.proofs.Laid.{quick-after, depth-after, steps-paid}
+use Rattle.seeking.specs.Quick.{quickIn}
+use Rattle.seeking.proofs.Laid.{quick-after, depth-after, steps-paid}
 use Rattle.marks.specs.Reported.{Reports}
 use Rattle.window.specs.Happened.{happened}
 use Rattle.window.proofs.Happened.{happened-long, happened-few}

@@ -14,9 +14,9 @@ use borrow.Author.Tests.{ltb-true}
 use Rattle.counters.specs.declared.State.{State}
 use Rattle.counters.specs.declared.Place.{Place}
 use Rattle.tables.specs.Reads.{stateCountIn, denseIn, phraseCountIn}
-use Rattle.gliding.specs.Quick.{quickIn}
-use Rattle.gliding.specs.Foreseen.{afterFrom}
-use Rattle.gliding.proofs.Foreseen.{after-add, after-same}
+use Rattle.seeking.specs.Quick.{quickIn}
+use Rattle.seeking.specs.Foreseen.{afterFrom}
+use Rattle.seeking.proofs.Foreseen.{after-add, after-same}
 use Rattle.feeding.specs.Taken.{Run, byteTaken, freeAfter, partTaken, toCome}
 use Rattle.feeding.specs.Ready.{Ready, ReadyOn, KeptOn}
 use Rattle.feeding.specs.Rule.{allTaken}

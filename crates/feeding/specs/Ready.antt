@@ -8,7 +8,7 @@ use lib.ListN.{length}
 use Rattle.tables.specs.Layout.{roomForStates, roomForPhrases}
 use Rattle.tables.specs.Reads.{Whole, stateCountIn, denseIn, phraseCountIn}
 use Rattle.running.specs.Reads.{WholeRunning}
-use Rattle.gliding.specs.Foreseen.{Looked, Foreseen}
+use Rattle.seeking.specs.Foreseen.{Looked, Foreseen}
 use Rattle.ahead.specs.Columns.{columnsFit}
 use Rattle.feeding.specs.declared.Progress.{Progress}
 use Rattle.feeding.specs.Taken.{runOf, toCome}

@@ -5,7 +5,7 @@ use Prim.Native.Nat.{ℕ, _+_, _-_}
 use lib.Dec.{ltb}
 use lib.ListN.{drop}
 use Rattle.tables.specs.Reads.{stateCountIn, denseIn, phraseCountIn, depthIn, gainIn}
-use Rattle.gliding.specs.Quick.{quickIn}
+use Rattle.seeking.specs.Quick.{quickIn}
 use Rattle.window.specs.Happened.{Here, happened}
 use Rattle.gliding.specs.declared.Way.{Way}
 use Rattle.feeding.specs.declared.Progress.{Progress}

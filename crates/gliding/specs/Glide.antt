@@ -9,7 +9,7 @@ use Rattle.tables.specs.Layout.{roomForStates}
 use Rattle.tables.specs.Reads.{Whole, stateCountIn, denseIn, gainIn, endingIn}
 use Rattle.running.specs.Reads.{WholeRunning, flagIn}
 use Rattle.window.specs.Waiting.{slotOf}
-use Rattle.gliding.specs.Quick.{quickIn}
+use Rattle.seeking.specs.Quick.{quickIn}
 use Rattle.gliding.specs.declared.Way.{Way}
 
 -- How far bytes have been taken: the state, the place, how many bytes, and the sum of the gains.

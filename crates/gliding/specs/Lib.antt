@@ -1,4 +1,2 @@
-pub mod Quick
 pub mod Glide
 pub mod Going
-pub mod Foreseen

@@ -12,11 +12,6 @@ use counters::Place;
 use counters::State;
 use running::layout::FLAG;
 
-mod quick; // quick.rt: the quick next state
-
-pub use quick::sought;
-pub use quick::state_at;
-
 // How far the bytes of a part have been taken: the state, the place, how many bytes, and the sum of the gains; and whether
 // what happens at the last of them is still to be done.
 pub struct Way {
@@ -52,7 +47,7 @@ fn go_on(t: &[u8], m: &[u8], states: usize, dense: usize, from: Going, byte: u8)
     requires { ⌜ GoReady (now t) (now m) states dense from ⌝ }
     ensures { λ r. ⌜ (goingOf r ≡ oneOn (now (t .entry)) (now (m .entry)) (goneTo from) byte) × (GoKept states from r) ⌝ }
 {
-    let next = sought(t, states, dense, from.index, byte);
+    let next = seeking::sought(t, states, dense, from.index, byte);
     let place = from.place.next();
     let taken = from.taken + 1;
     if states <= next {
@@ -64,8 +59,8 @@ fn go_on(t: &[u8], m: &[u8], states: usize, dense: usize, from: Going, byte: u8)
             event: !is_quiet(t, m, State::root(), place),
         };
     }
-    let gains = from.gains + lent::wide64(tables::gain(t, quick::state_at(next)));
-    if is_quiet(t, m, quick::state_at(next), place) {
+    let gains = from.gains + lent::wide64(tables::gain(t, seeking::state_at(next)));
+    if is_quiet(t, m, seeking::state_at(next), place) {
         return Going {
             index: next,
             place,
@@ -90,7 +85,7 @@ fn way_to(going: Going) -> Way
 {
     let place = going.place;
     Way {
-        state: quick::state_at(going.index),
+        state: seeking::state_at(going.index),
         place,
         taken: going.taken,
         gains: going.gains,

@@ -11,7 +11,7 @@ use lib.ListN.{length}
 use borrow.Author.Tests.{ltb-false}
 use Rattle.tables.specs.Layout.{roomForPhrases}
 use Rattle.tables.specs.Reads.{Whole, stateCountIn, denseIn, phraseCountIn}
-use Rattle.gliding.specs.Quick.{quickIn}
+use Rattle.seeking.specs.Quick.{quickIn}
 use Rattle.window.proofs.Happened.{happened-few}
 use Rattle.feeding.specs.Taken.{Run, atStart, byteTaken, freeAfter, partTaken}
 use Rattle.scanner.specs.Answers.{said}

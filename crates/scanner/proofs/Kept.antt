@@ -20,8 +20,8 @@ use Rattle.tables.proofs.Parts.{number-zero}
 use Rattle.running.specs.Layout.{runningSize, tagAt, stateAt, placeAt, markAt, flagAt, runningTag}
 use Rattle.running.specs.Reads.{WholeRunning, closingPlaceIn}
 use Rattle.marks.specs.Marked.{noMarks, withMark}
-use Rattle.gliding.specs.Quick.{quickIn}
-use Rattle.gliding.proofs.Turns.{quick-inside}
+use Rattle.seeking.specs.Quick.{quickIn}
+use Rattle.seeking.proofs.Found.{quick-inside}
 use Rattle.window.specs.Waiting.{slotFrom, withWaitingFrom}
 use Rattle.lent.specs.Zeros.{withZeros}
 use Rattle.window.specs.Opening.{slotOpened}

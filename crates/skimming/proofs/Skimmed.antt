@@ -8,12 +8,12 @@ use native.Mathlib.Omega.{arith}
 use lib.ListN.{length, getD, drop}
 use lib.Seq.{drop-cons, drop-length}
 use Rattle.tables.specs.Reads.{stateCountIn, denseIn, gainIn}
-use Rattle.gliding.specs.Quick.{quickIn}
+use Rattle.seeking.specs.Quick.{quickIn}
 use Rattle.gliding.specs.Glide.{Gone, further, quietAt, goesOn, Glide, oneOn, glideIn, goneBy, glideOf, GlideKept}
-use Rattle.gliding.specs.Foreseen.{afterFrom}
+use Rattle.seeking.specs.Foreseen.{afterFrom}
 use Rattle.gliding.specs.declared.Way.{Way}
 use Rattle.gliding.proofs.Turns.{kept-by}
-use Rattle.gliding.proofs.Foreseen.{after-more, after-inside}
+use Rattle.seeking.proofs.Foreseen.{after-more, after-inside}
 use Rattle.skimming.specs.Look.{Look, lookIn, lookFrom}
 use Rattle.skimming.specs.Infos.{States}
 use Rattle.skimming.specs.Ready.{lookOf, wayOf, LookReady, LookKept, SkimReady}

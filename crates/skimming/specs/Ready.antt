@@ -7,7 +7,7 @@ use lib.ListN.{length, getD}
 use Rattle.tables.specs.Reads.{Whole}
 use Rattle.running.specs.Reads.{WholeRunning}
 use Rattle.gliding.specs.Glide.{Glide, GlideReady}
-use Rattle.gliding.specs.Foreseen.{Foreseen}
+use Rattle.seeking.specs.Foreseen.{Foreseen}
 use Rattle.gliding.specs.declared.Way.{Way}
 use Rattle.skimming.specs.Look.{Look}
 use Rattle.skimming.specs.Infos.{States}

@@ -5,7 +5,7 @@ ghost use mathlib.Core.Bool.{false};
 ghost use Prim.Native.Nat.{_-_, _<_};
 ghost use lib.ListN.{drop};
 ghost use Rattle.gliding.specs.Glide.{glideIn, goneBy, glideOf, GlideKept};
-ghost use Rattle.gliding.specs.Foreseen.{afterFrom};
+ghost use Rattle.seeking.specs.Foreseen.{afterFrom};
 ghost use Rattle.skimming.specs.Look.{lookFrom};
 ghost use Rattle.skimming.specs.Ready.{lookOf, LookReady, LookKept, WayReady, wayOf, SkimReady};
 use counters::Place;

@@ -4,7 +4,7 @@ use mathlib.Core.Path.{ap₂, _∙_}
 use Prim.Native.Nat.{ℕ}
 use native.Mathlib.Omega.{arith}
 use lib.Dec.{leb}
-use Rattle.gliding.specs.Quick.{lastColumn}
+use Rattle.seeking.specs.Quick.{lastColumn}
 use Rattle.ahead.specs.Columns.{columnsFit}
 use borrow.Author.Needs.{needs}
 use Rattle.ahead.proofs.room.columns_fit.Statement.{statement}

@@ -6,7 +6,7 @@ use native.Mathlib.Nat.{le-trans}
 use native.Mathlib.Omega.{arith}
 use lib.ListN.{length}
 use borrow.Author.Tests.{not-true, not-false}
-use Rattle.gliding.specs.Foreseen.{Foreseen}
+use Rattle.seeking.specs.Foreseen.{Foreseen}
 use Rattle.feeding.specs.Taken.{runOf, progressOn, freeAfter}
 use Rattle.feeding.proofs.Loop.{Turning, begins, took-from, turning-start, turning-few, turning-ready, turning-full, turning-quiet, turning-happens, turning-next, turning-less, foreseen-next, foreseen-first}
 use Rattle.feeding.proofs.quarter.take_quarter.Statement.{statement}

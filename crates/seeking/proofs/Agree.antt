@@ -15,8 +15,8 @@ use Rattle.tables.proofs.Followed.{back-below}
 use Rattle.stepping.specs.Steps.{childByIn, nextIn}
 use Rattle.stepping.proofs.Turns.{next-forward, next-back}
 use Rattle.stepping.proofs.Right.{child-below}
-use Rattle.gliding.specs.Quick.{rowIn, soughtIn, quickIn}
-use Rattle.gliding.proofs.Seeking.{sought-dense, sought-child, sought-back}
+use Rattle.seeking.specs.Quick.{rowIn, soughtIn, quickIn}
+use Rattle.seeking.proofs.Seeking.{sought-dense, sought-child, sought-back}
 
 -- A number that was found, where it is a state's; else the root.
 abbrev pub chosen : ℕ → ℕ → ℕ

@@ -29,9 +29,9 @@ use Rattle.tables.proofs.Fast.{dense-laid, column-inside, cell-laid, depth-laid
 use Rattle.stepping.specs.Steps.{nextIn}
 use Rattle.stepping.proofs.Right.{next-right}
 use Rattle.stepping.proofs.Laid.{states-laid, failures-laid, next-after}
-use Rattle.gliding.specs.Quick.{lastColumn, rowIn, quickIn}
-use Rattle.gliding.proofs.Seeking.{row-no-byte, row-cell}
-use Rattle.gliding.proofs.Agree.{chosen, quick-agrees}
+use Rattle.seeking.specs.Quick.{lastColumn, rowIn, quickIn}
+use Rattle.seeking.proofs.Seeking.{row-no-byte, row-cell}
+use Rattle.seeking.proofs.Agree.{chosen, quick-agrees}
 
 module _ (book : Book) (within : Within book) (t : List ℕ) (laid : Laid (tablesLayout book) t) where
   bytes : All Bytes (keywords (book .phrases))

@@ -4,10 +4,10 @@ use mathlib.Core.Path.{_≡_, refl, sym, _∙_}
 use Prim.Native.Nat.{_≤_, _<_}
 use borrow.Author.Needs.{needs}
 use native.Mathlib.Omega.{arith}
-use Rattle.gliding.specs.Quick.{soughtIn}
-use Rattle.gliding.proofs.Seeking.{sought-dense, turn-child, turn-back, smaller}
-use Rattle.gliding.proofs.quick.sought.Statement.{statement}
-use Rattle.gliding.proofs.quick.sought.Tie as tie
+use Rattle.seeking.specs.Quick.{soughtIn}
+use Rattle.seeking.proofs.Seeking.{sought-dense, turn-child, turn-back, smaller}
+use Rattle.seeking.proofs.sought.Statement.{statement}
+use Rattle.seeking.proofs.sought.Tie as tie
 
 abbrev Inv-loop : tie.InvT-loop
 Inv-loop t states dense index byte from₀ from = (from < states) × (soughtIn t states dense index byte ≡ soughtIn t states dense from byte)

@@ -4,7 +4,7 @@ use mathlib.Core.List.{List}
 use Prim.Native.Nat.{ℕ, zero, suc, _+_, _-_, _*_, _<_}
 use lib.ListN.{length, getD}
 use Rattle.tables.specs.Reads.{stateCountIn, denseIn}
-use Rattle.gliding.specs.Quick.{quickIn}
+use Rattle.seeking.specs.Quick.{quickIn}
 
 -- The state after so many bytes of a part, from one of its bytes on.
 unfoldable pub afterFrom : List ℕ → List ℕ → ℕ → ℕ → ℕ → ℕ

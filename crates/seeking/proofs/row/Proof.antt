@@ -2,10 +2,10 @@
 -- Assumes nothing.
 use mathlib.Core.Path.{sym}
 use native.Mathlib.Omega.{arith}
-use Rattle.gliding.proofs.Seeking.{row-none, row-cell}
+use Rattle.seeking.proofs.Seeking.{row-none, row-cell}
 use borrow.Author.Needs.{needs}
-use Rattle.gliding.proofs.quick.row.Statement.{statement}
-use Rattle.gliding.proofs.quick.row.Tie as tie
+use Rattle.seeking.proofs.row.Statement.{statement}
+use Rattle.seeking.proofs.row.Tie as tie
 
 column-requires : tie.Need-column-requires
 column-requires c κs = search needs

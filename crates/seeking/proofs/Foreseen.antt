@@ -7,9 +7,9 @@ use native.Mathlib.Numerals.{add-one}
 use native.Mathlib.Omega.{arith}
 use lib.ListN.{length, getD}
 use Rattle.tables.specs.Reads.{stateCountIn, denseIn}
-use Rattle.gliding.specs.Quick.{quickIn}
-use Rattle.gliding.specs.Foreseen.{afterFrom, Looked, Foreseen}
-use Rattle.gliding.proofs.Turns.{quick-inside}
+use Rattle.seeking.specs.Quick.{quickIn}
+use Rattle.seeking.specs.Foreseen.{afterFrom, Looked, Foreseen}
+use Rattle.seeking.proofs.Found.{quick-inside}
 
 module _ (t part : List ℕ) where
   -- One byte more.

@@ -10,7 +10,7 @@ use borrow.Author.Tests.{lt-ltb, le-ltb, le-leb, lt-leb, eq-eqb, ne-eqb, ltb-fal
 use Rattle.tables.specs.Reads.{cellIn, backIn}
 use Rattle.tables.proofs.Followed.{back-below}
 use Rattle.stepping.specs.Steps.{childByIn}
-use Rattle.gliding.specs.Quick.{columnFor, lastColumn, hasColumn, rowIn, rowsEnd, soughtWithin, soughtIn}
+use Rattle.seeking.specs.Quick.{columnFor, lastColumn, hasColumn, rowIn, rowsEnd, soughtWithin, soughtIn}
 
 -- The number at which the walk goes on is that of the failure, and smaller.
 pub smaller : (t : List ℕ) (from state back next : ℕ) → 0 < from → state ≡ from → back ≡ backIn t state → next ≡ back → (next ≡ backIn t from) × (next < from)

@@ -3,7 +3,7 @@ ghost use mathlib.Core.Path.{_≡_};
 ghost use Prim.Native.Nat.{_≤_, _<_};
 ghost use Rattle.tables.specs.Layout.{roomForStates};
 ghost use Rattle.tables.specs.Reads.{Whole};
-ghost use Rattle.gliding.specs.Quick.{rowIn, soughtIn};
+ghost use Rattle.seeking.specs.Quick.{rowIn, soughtIn};
 use counters::State;
 use tables::layout::SIZE;
 
