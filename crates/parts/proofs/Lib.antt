@@ -1,11 +1,6 @@
-pub mod Found
-pub mod Ends
-pub mod Last
 pub mod Opens
 pub mod Lists
-pub mod Codes
 pub mod Shown
 pub mod Meant
-pub mod Texts
 pub mod Readied
 pub mod Once

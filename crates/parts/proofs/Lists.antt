@@ -1,14 +1,16 @@
 -- Each way through list_part is one case of its definition, by what feed answers; and the reports that feed says stand in the room.
 -- Assumes nothing.
 use mathlib.Core.Path.{_≡_, refl, sym, ap, subst, _∙_}
-use mathlib.Core.Logic.{⊎-elim}
+use mathlib.Core.Logic.{_⊎_, inl, inr, ⊎-elim}
 use mathlib.Core.Bool.{Bool, true, false, cond}
 use mathlib.Core.List.{List, [], _∷_}
-use Prim.Native.Nat.{ℕ, zero, suc, _+_, _-_, _*_, _/_, _≤_, _<_}
+use Prim.Native.Nat.{ℕ, _+_, _*_, _/_, _≤_}
 use native.Mathlib.Omega.{arith}
 use lib.Dec.{ltb}
 use lib.ListN.{length}
 use borrow.Author.Tests.{ltb-false}
+use types.Run.{OneOf}
+use denote.Enum.Declared.{tagOf}
 use Rattle.tables.specs.Layout.{roomForPhrases}
 use Rattle.tables.specs.Reads.{Whole, stateCountIn, denseIn, phraseCountIn}
 use Rattle.seeking.specs.Quick.{quickIn}
@@ -19,42 +21,13 @@ use Rattle.scanner.specs.Passing.{stateHeld, placeHeld}
 use Rattle.scanner.specs.Exact.{FeedEnd, tookFrom, feedOf}
 use Rattle.scanner.specs.declared.Fed.{Fed}
 use Rattle.scanner.specs.declared.Fed.the-variants as fed
+use Rattle.scanner.proofs.Fed.{the-type}
 use Rattle.scanner.proofs.Rule.{Refused, Taking, feed-cases, rule-feed}
-use Rattle.listing.specs.Lines.{hitLine}
-use Rattle.listing.specs.Writing.{Left, left, withLine}
-use Rattle.parts.specs.Rights.{rightsIn}
-use Rattle.parts.specs.Hits.{numberIn, placeIn, hitWritten, hitsWritten}
-use Rattle.parts.specs.Answers.{listedTaken, listedEnd}
+use Rattle.listing.specs.Writing.{Left, left}
+use Rattle.lines.specs.Answers.{listedTaken, listedEnd}
+use Rattle.lines.specs.declared.answers.Listed.the-variants as listed
+use Rattle.lines.proofs.Ends.{hits-inside}
 use Rattle.parts.specs.Exact.{ListEnd, tookAnswer, hitsOf, tookWith, listedAs, listOf}
-use Rattle.parts.proofs.Ends.{hits-inside}
-
--- ── The hit lines, in rest form ──
-
--- A report's line, from what was read of it.
-pub hit-turn : (t room out : List ℕ) (i at place number rights : ℕ) → number ≡ numberIn room i → place ≡ placeIn room i → rights ≡ rightsIn t number
-    → (after : List ℕ) (r : ℕ) → left after r ≡ withLine out at (hitLine place number rights) → left after r ≡ hitWritten t room i (left out at)
-unfolding hitWritten
-hit-turn t room out i at place number rights its where-it-is code after r line = rw (← its, ← where-it-is, ← code) line
-
-module _ (t room : List ℕ) (reports : ℕ) where
-  pub hits-next : (i : ℕ) (here next : Left) → i < reports → next ≡ hitWritten t room i here
-      → hitsWritten t room (i + 1) (reports - (i + 1)) next ≡ hitsWritten t room i (reports - i) here
-  unfolding hitsWritten
-  hits-next i here next inside is = go (reports - i) refl (reports - (i + 1)) refl
-    where
-      go : (left : ℕ) → left ≡ reports - i → (later : ℕ) → later ≡ reports - (i + 1) → hitsWritten t room (i + 1) later next ≡ hitsWritten t room i left here
-      go zero e later f = absurd (omega arith)
-      go (suc left) e later f =
-          let same : later ≡ left = omega arith in
-          rw (same, is)
-
-  pub hits-end : (i : ℕ) (here : Left) → reports ≤ i → here ≡ hitsWritten t room i (reports - i) here
-  unfolding hitsWritten
-  hits-end i here past = go (reports - i) (omega arith)
-    where
-      go : (left : ℕ) → left ≡ 0 → here ≡ hitsWritten t room i left here
-      go zero e = refl
-      go (suc left) e = absurd (omega arith)
 
 -- ── What feed's answer is worth, whatever it was lent ──
 
@@ -109,6 +82,25 @@ module _ (t m part room out : List ℕ) (end : FeedEnd) (is : end ≡ feedOf t m
   listed-as answer e =
       ap (λ (a : Fed). listedAs a t (end .memory) (end .room) out) (sym e)
       ∙ ap (λ (f : FeedEnd). listedAs (f .answer) t (f .memory) (f .room) out) is
+
+  -- Any refusal but that of 11: the answers with these tags are the three others.
+  pub listed-refused : OneOf (1 ∷ 2 ∷ 3 ∷ []) (tagOf the-type (end .answer))
+      → record { answer = listed.NotTaken; running = end .memory; room = end .room; out = out } ≡ listOf t m part room out
+  unfolding listedAs
+  listed-refused tags = go (end .answer) refl (between _ tags)
+    where
+      between : (tag : ℕ) → OneOf (1 ∷ 2 ∷ 3 ∷ []) tag → (1 ≤ tag) × (tag ≤ 3)
+      between tag (inl e) = (omega arith, omega arith)
+      between tag (inr (inl e)) = (omega arith, omega arith)
+      between tag (inr (inr e)) = (omega arith, omega arith)
+
+      go : (answer : Fed) → end .answer ≡ answer → (1 ≤ tagOf the-type answer) × (tagOf the-type answer ≤ 3)
+          → record { answer = listed.NotTaken; running = end .memory; room = end .room; out = out } ≡ listOf t m part room out
+      go (fed.Took taken reports steps) e tag = absurd (omega arith)
+      go fed.TooSmall e tag = listed-as fed.TooSmall e
+      go fed.NotTables e tag = listed-as fed.NotTables e
+      go fed.NoRoom e tag = listed-as fed.NoRoom e
+      go fed.TooLong e tag = absurd (omega arith)
 
   pub listed-took : (taken reports steps : ℕ) → end .answer ≡ fed.Took taken reports steps
       → (after : List ℕ) (r : ℕ) → left after r ≡ hitsOf t (end .room) reports out

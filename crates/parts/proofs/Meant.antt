@@ -24,12 +24,13 @@ use Rattle.listing.specs.Lines.{longestLine}
 use Rattle.listing.specs.Writing.{Left, left}
 use Rattle.listing.specs.Listing.{hitLines}
 use Rattle.listing.proofs.Whole.{first-bytes}
-use Rattle.parts.specs.Answers.{listedEnd}
+use Rattle.lines.specs.Answers.{listedEnd}
+use Rattle.lines.specs.Last.{textOf}
+use Rattle.lines.specs.declared.answers.Listed.the-variants as listed
+use Rattle.lines.proofs.Ends.{hits-inside}
 use Rattle.parts.specs.Exact.{ListEnd, hitsOf, tookWith, listedAs, listOf}
-use Rattle.parts.specs.Meant.{textOf, ListRefused, ListTook, ListRight}
+use Rattle.parts.specs.Meant.{ListRefused, ListTook, ListRight}
 use Rattle.parts.specs.Promised.{ListPromise}
-use Rattle.parts.specs.declared.Listed.the-variants as listed
-use Rattle.parts.proofs.Ends.{hits-inside}
 use Rattle.parts.proofs.Lists.{listed-as}
 use Rattle.parts.proofs.Shown.{reports-show, hits-shown}
 

@@ -3,18 +3,11 @@
 use mathlib.Core.Path.{_≡_, sym, _∙_}
 use mathlib.Core.List.{List}
 use Prim.Native.Nat.{ℕ}
-use Rattle.listing.specs.Writing.{Left}
 use Rattle.parts.specs.Exact.{OpenEnd, ListEnd}
-use Rattle.parts.specs.Promised.{OpenPromise, ListPromise, LastPromise, TooLongPromise}
+use Rattle.parts.specs.Promised.{OpenPromise, ListPromise}
 
 pub open-once : (book t m out : List ℕ) (a b : OpenEnd) → OpenPromise book t m out a → OpenPromise book t m out b → a ≡ b
 open-once book t m out a b p q = p .exact ∙ sym (q .exact)
 
 pub list-once : (t m part room out : List ℕ) (a b : ListEnd) → ListPromise t m part room out a → ListPromise t m part room out b → a ≡ b
 list-once t m part room out a b p q = p .exact ∙ sym (q .exact)
-
-pub last-once : (out : List ℕ) (taken hits steps : ℕ) (a b : Left) → LastPromise out taken hits steps a → LastPromise out taken hits steps b → a ≡ b
-last-once out taken hits steps a b p q = p .exact ∙ sym (q .exact)
-
-pub too-long-once : (out : List ℕ) (taken : ℕ) (a b : Left) → TooLongPromise out taken a → TooLongPromise out taken b → a ≡ b
-too-long-once out taken a b p q = p .exact ∙ sym (q .exact)

@@ -1,13 +1,16 @@
 -- Each way through open_book is one case of its definition, by what build and begin answer.
 -- Assumes nothing.
 use mathlib.Core.Path.{_≡_, refl, sym, ap, ap₂, subst, _∙_}
+use mathlib.Core.Logic.{⊎-elim}
 use mathlib.Core.Bool.{Bool, true, false, cond}
-use mathlib.Core.List.{List}
-use Prim.Native.Nat.{ℕ, _≤_}
+use mathlib.Core.List.{List, [], _∷_}
+use Prim.Native.Nat.{ℕ, _≤_, _<_}
 use native.Mathlib.Omega.{arith}
 use lib.Dec.{eqb}
 use lib.ListN.{length}
 use borrow.Author.Tests.{eq-eqb, ne-eqb}
+use types.Run.{OneOf}
+use denote.Enum.Declared.{tagOf}
 use Rattle.tables.specs.Reads.{Whole, phraseCountIn}
 use Rattle.builder.specs.declared.answers.Built.{Built}
 use Rattle.builder.specs.Answers.{Said, said, saidBy}
@@ -17,14 +20,15 @@ use Rattle.scanner.specs.Passing.{tooSmall}
 use Rattle.scanner.specs.Exact.{BeginEnd, beginOf}
 use Rattle.scanner.specs.declared.Begun.{Begun}
 use Rattle.scanner.specs.declared.Begun.the-variants as begun
+use Rattle.scanner.proofs.Begun.{the-type}
 use Rattle.scanner.proofs.Passing.{whole}
 use Rattle.scanner.proofs.Cases.{begin-small}
 use Rattle.listing.specs.Lines.{bookLine, refusedLine}
 use Rattle.listing.specs.Writing.{Left, left, withLine}
-use Rattle.parts.specs.Answers.{openedEnd}
+use Rattle.lines.specs.Answers.{openedEnd}
+use Rattle.lines.specs.declared.answers.Opened.the-variants as opened
+use Rattle.lines.proofs.Ends.{line-inside}
 use Rattle.parts.specs.Exact.{OpenEnd, readyWith, readyAs, begunOf, refusedAnswer, refusedWith, openedAs, openOf}
-use Rattle.parts.specs.declared.Opened.the-variants as opened
-use Rattle.parts.proofs.Ends.{line-inside}
 
 -- ── The letter begins ──
 
@@ -44,6 +48,18 @@ module _ (t m out : List ℕ) (offset : ℕ) (end : BeginEnd) (is : end ≡ begi
   begun-as answer e =
       ap (λ (a : Begun). readyAs a t (end .memory) out offset) (sym e)
       ∙ ap (λ (b : BeginEnd). readyAs (b .answer) t (b .memory) out offset) is
+
+  -- A refusal: the answers with these tags are the two others.
+  pub begun-refused : OneOf (1 ∷ 2 ∷ []) (tagOf the-type (end .answer))
+      → record { answer = opened.Refused 0; tables = t; running = end .memory; out = out } ≡ begunOf t m out offset
+  unfolding readyAs
+  begun-refused tags = go (end .answer) refl (⊎-elim (λ e. omega (arith, e)) (λ e. omega (arith, e)) tags)
+    where
+      go : (answer : Begun) → end .answer ≡ answer → 0 < tagOf the-type answer
+          → record { answer = opened.Refused 0; tables = t; running = end .memory; out = out } ≡ begunOf t m out offset
+      go begun.Done e tag = absurd (omega arith)
+      go begun.TooSmall e tag = begun-as begun.TooSmall e
+      go begun.NotTables e tag = begun-as begun.NotTables e
 
   pub begun-ready : end .answer ≡ begun.Done → (after : List ℕ) (r : ℕ) → left after r ≡ withLine out 0 (bookLine 0 offset (phraseCountIn t))
       → record { answer = opened.Ready r; tables = t; running = end .memory; out = after } ≡ begunOf t m out offset

@@ -27,13 +27,13 @@ use Rattle.scanner.specs.declared.Begun.the-variants as begun
 use Rattle.scanner.proofs.Begins.{begin-means}
 use Rattle.listing.specs.Lines.{bookLine, refusedLine, longestLine}
 use Rattle.listing.proofs.Lengths.{book-line-most, refused-line-most}
-use Rattle.parts.specs.Answers.{openedEnd}
+use Rattle.lines.specs.Answers.{openedEnd}
+use Rattle.lines.specs.declared.answers.Opened.the-variants as opened
+use Rattle.lines.proofs.Texts.{line-text}
 use Rattle.parts.specs.Exact.{OpenEnd, readyWith, readyAs, refusedWith, openedAs, openOf}
-use Rattle.parts.specs.declared.Opened.the-variants as opened
 use Rattle.parts.specs.Meant.{openedText, BookReady, OpensAs}
 use Rattle.parts.specs.Promised.{OpenPromise}
 use Rattle.parts.proofs.Opens.{begun-as, opened-by, refused-is, taken-is}
-use Rattle.parts.proofs.Texts.{line-text}
 
 begun-done : (answer : Begun) → begunNumber answer ≡ 0 → answer ≡ begun.Done
 unfolding begunNumber

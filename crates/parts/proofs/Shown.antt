@@ -22,8 +22,8 @@ use Rattle.listing.specs.Writing.{left}
 use Rattle.listing.specs.Listing.{rightsOf, hitLines}
 use Rattle.listing.proofs.Whole.{line-fits}
 use Rattle.listing.proofs.Lengths.{hit-line-most}
-use Rattle.parts.specs.Hits.{numberIn, hitWritten, hitsWritten}
-use Rattle.parts.proofs.Codes.{codes-right, code-fits}
+use Rattle.lines.specs.Hits.{numberIn, hitWritten, hitsWritten}
+use Rattle.lines.proofs.Codes.{codes-right, code-fits}
 
 -- ── The reports of a book fit a line ──
 
@@ -59,14 +59,14 @@ module _ (book : Book) (t : List ℕ) (tables : TablesOf book t) where
 
   line-most : (report : Report) → Shows report → length (lineOf report) ≤ longestLine
   line-most report shows = hit-line-most (report .place) (report .number) (rightsOf (book .phrases) (report .number))
-      (omega (arith, shows .place)) (omega (arith, shows .number)) (omega (arith, code-fits book t tables (report .number)))
+      (omega (arith, shows .place)) (omega (arith, shows .number)) (omega (arith, code-fits book (tables .limits) t (tables .laid) (tables .bytes) (report .number)))
 
   one-shown : (report : Report) → Shows report → (room out : List ℕ) (i at : ℕ) → getD room (2 * i) 0 ≡ report .number → getD room (2 * i + 1) 0 ≡ report .place
       → at + longestLine ≤ length out → hitWritten t room i (left out at) ≡ left (withBytes out at (lineOf report)) (at + length (lineOf report))
   unfolding hitWritten
   one-shown report shows room out i at its where-it-is fits =
       let number : numberIn room i ≡ report .number = omega (arith, its, shows .number) in
-      rw (number, where-it-is, codes-right book t tables (report .number))
+      rw (number, where-it-is, codes-right book (tables .limits) t (tables .laid) (report .number))
       (line-fits out at (lineOf report) (omega (arith, line-most report shows)))
 
   pub hits-shown : (hits : List Report) → All Shows hits → (room out : List ℕ) (i at : ℕ)

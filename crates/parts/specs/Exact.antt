@@ -1,5 +1,5 @@
 -- What each function answers and leaves, for all that it can be lent. Assumes nothing: these are definitions.
-use mathlib.Core.Bool.{Bool, cond}
+use mathlib.Core.Bool.{cond}
 use mathlib.Core.List.{List}
 use Prim.Native.Nat.{ℕ}
 use lib.Dec.{eqb}
@@ -11,13 +11,13 @@ use Rattle.scanner.specs.declared.Begun.{Begun}
 use Rattle.scanner.specs.declared.Begun.the-variants as begun
 use Rattle.scanner.specs.declared.Fed.{Fed}
 use Rattle.scanner.specs.declared.Fed.the-variants as fed
-use Rattle.listing.specs.Lines.{bookLine, refusedLine, endLine, noStatement, letterLine}
+use Rattle.listing.specs.Lines.{bookLine, refusedLine}
 use Rattle.listing.specs.Writing.{Left, left, withLine}
-use Rattle.parts.specs.Hits.{hitsWritten}
-use Rattle.parts.specs.declared.Opened.{Opened}
-use Rattle.parts.specs.declared.Opened.the-variants as opened
-use Rattle.parts.specs.declared.Listed.{Listed}
-use Rattle.parts.specs.declared.Listed.the-variants as listed
+use Rattle.lines.specs.Hits.{hitsWritten}
+use Rattle.lines.specs.declared.answers.Opened.{Opened}
+use Rattle.lines.specs.declared.answers.Opened.the-variants as opened
+use Rattle.lines.specs.declared.answers.Listed.{Listed}
+use Rattle.lines.specs.declared.answers.Listed.the-variants as listed
 
 -- ── The book ──
 
@@ -98,19 +98,3 @@ unfoldable pub listOf : List ℕ → List ℕ → List ℕ → List ℕ → List
 listOf t m part room out =
     let end : FeedEnd = feedOf t m part room in
     listedAs (end .answer) t (end .memory) (end .room) out
-
--- ── The last lines ──
-
--- A letter had no hits.
-unfoldable pub withoutHits : ℕ → Bool
-withoutHits hits = eqb hits 0
-
--- The end line, and behind it, where there were no hits, what follows it then.
-unfoldable pub lastOf : List ℕ → ℕ → ℕ → ℕ → Left
-lastOf out taken hits steps =
-    let line : Left = withLine out 0 (endLine taken hits steps) in
-    cond (withoutHits hits) (withLine (line .buffer) (line .next) noStatement) line
-
--- The line of a letter that is too long.
-unfoldable pub tooLongOf : List ℕ → ℕ → Left
-tooLongOf out taken = withLine out 0 (letterLine taken)

@@ -9,18 +9,14 @@ use Rattle.meaning.specs.Calls.{largestPlace, takes, reportsAfter, stepsAfter}
 use Rattle.format.specs.Refusals.{Refusal, numberOf}
 use Rattle.format.specs.Judged.{Judgement, accepted, refused}
 use Rattle.scanner.specs.Meant.{TablesOf, RunningOf}
-use Rattle.listing.specs.Lines.{bookLine, refusedLine, letterLine, longestLine}
-use Rattle.listing.specs.Writing.{Left}
-use Rattle.listing.specs.Listing.{hitLines, lastLines}
-use Rattle.parts.specs.Answers.{openedEnd, listedEnd}
+use Rattle.listing.specs.Lines.{bookLine, refusedLine, longestLine}
+use Rattle.listing.specs.Listing.{hitLines}
+use Rattle.lines.specs.Answers.{openedEnd, listedEnd}
+use Rattle.lines.specs.declared.answers.Opened.the-variants as opened
+use Rattle.lines.specs.declared.answers.Listed.the-variants as listed
 use Rattle.parts.specs.Exact.{OpenEnd, ListEnd}
-use Rattle.parts.specs.declared.Opened.the-variants as opened
-use Rattle.parts.specs.declared.Listed.the-variants as listed
 
 -- ── What the caller passes on: the bytes up to where the lines end ──
-
-abbrev pub textOf : Left → List ℕ
-textOf left = take (left .next) (left .buffer)
 
 abbrev pub openedText : OpenEnd → List ℕ
 openedText end = take (openedEnd (end .answer)) (end .out)
@@ -75,13 +71,3 @@ pub record ListRight (book : Book) (x m part room out : List ℕ) (end : ListEnd
   pub too-long : length (book .phrases) ≤ length room / 2 → largestPlace < length x + length part
       → (end .answer ≡ listed.TooLong) × ListRefused m room out end
   pub took : length (book .phrases) ≤ length room / 2 → length x + length part ≤ largestPlace → (taken : ℕ) × ListTook book x part room out taken end
-
--- ── The last lines ──
-
--- A buffer for two lines has the end line, and with no hits a further line.
-abbrev pub LastRight : List ℕ → ℕ → ℕ → ℕ → Left → Type 0
-LastRight out taken hits steps end = 2 * longestLine ≤ length out → textOf end ≡ lastLines taken hits steps
-
--- A buffer for one line has the line of 11.
-abbrev pub TooLongRight : List ℕ → ℕ → Left → Type 0
-TooLongRight out taken end = longestLine ≤ length out → textOf end ≡ letterLine taken

@@ -9,9 +9,8 @@ use Rattle.format.specs.Judged.{judged}
 use Rattle.tables.specs.Layout.{tablesSize}
 use Rattle.running.specs.Layout.{runningSize}
 use Rattle.scanner.specs.Meant.{TablesOf, RunningOf}
-use Rattle.listing.specs.Writing.{Left}
-use Rattle.parts.specs.Exact.{OpenEnd, openOf, ListEnd, listOf, lastOf, tooLongOf}
-use Rattle.parts.specs.Meant.{OpensAs, ListRight, LastRight, TooLongRight}
+use Rattle.parts.specs.Exact.{OpenEnd, openOf, ListEnd, listOf}
+use Rattle.parts.specs.Meant.{OpensAs, ListRight}
 
 pub record OpenPromise (book t m out : List ℕ) (end : OpenEnd) : Type 0 where
   pub exact : end ≡ openOf book t m out
@@ -20,11 +19,3 @@ pub record OpenPromise (book t m out : List ℕ) (end : OpenEnd) : Type 0 where
 pub record ListPromise (t m part room out : List ℕ) (end : ListEnd) : Type 0 where
   pub exact : end ≡ listOf t m part room out
   pub means : (book : Book) (x : List ℕ) → TablesOf book t → RunningOf book x m → ListRight book x m part room out end
-
-pub record LastPromise (out : List ℕ) (taken hits steps : ℕ) (end : Left) : Type 0 where
-  pub exact : end ≡ lastOf out taken hits steps
-  pub means : LastRight out taken hits steps end
-
-pub record TooLongPromise (out : List ℕ) (taken : ℕ) (end : Left) : Type 0 where
-  pub exact : end ≡ tooLongOf out taken
-  pub means : TooLongRight out taken end

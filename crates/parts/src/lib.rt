@@ -1,50 +1,22 @@
-// The listing in lent buffers: the book is opened, the parts of the letter are listed one after the other, and the last lines are written.
-// Each function writes its lines at the start of `out` and answers where they end; the caller passes these bytes on before the next call.
+// The listing in lent buffers: the book is opened, and the parts of the letter are listed one after the other; crate `lines` has the last
+// lines. Each function writes its lines at the start of `out` and answers where they end; the caller passes these bytes on before the next
+// call.
 ghost use mathlib.Core.Path.{_≡_};
 ghost use Prim.Native.Nat.{_≤_};
 ghost use lib.ListN.{length};
-ghost use Rattle.listing.specs.Writing.{left};
-ghost use Rattle.parts.specs.Answers.{openedEnd, listedTaken, listedEnd};
-ghost use Rattle.parts.specs.Exact.{begunOf, withoutHits};
-ghost use Rattle.parts.specs.Promised.{OpenPromise, ListPromise, LastPromise, TooLongPromise};
+ghost use Rattle.lines.specs.Answers.{openedEnd, listedTaken, listedEnd};
+ghost use Rattle.parts.specs.Exact.{begunOf};
+ghost use Rattle.parts.specs.Promised.{OpenPromise, ListPromise};
 use builder::build;
-use counters::Place;
-use hits::put_hits;
+use lines::Listed;
+use lines::Opened;
+use lines::put_hits;
 use listing::book_line;
-use listing::end_line;
-use listing::letter_line;
-use listing::no_statement;
 use listing::refused_line;
 use scanner::Begun;
 use scanner::Fed;
 use scanner::begin;
 use scanner::feed;
-
-mod hits;
-mod rights;
-
-// Whether the letter may begin, and where the line of the book ends.
-pub enum Opened {
-    // the book is accepted, and the lent memory is its own before the first byte: the book line is written
-    Ready { end: usize },
-    // the book is refused, or the lent memory is: a refused book's line is written
-    Refused { end: usize },
-}
-
-// How a part went, and where its hit lines end.
-pub enum Listed {
-    // so many bytes of it were taken, with so many reports and failure steps
-    Took {
-        taken: usize,
-        hits: usize,
-        steps: u64,
-        end: usize,
-    },
-    // the bytes already taken plus this part exceed the largest place
-    TooLong,
-    // the lent memory or room is refused, which is never so for memory that a book was opened in and room for every phrase
-    NotTaken,
-}
 
 // Builds the tables of a book, begins the letter, and writes the line of the book.
 pub fn open_book(book: &[u8], tables: &mut [u8], running: &mut [u8], out: &mut [u8]) -> Opened
@@ -77,8 +49,7 @@ fn begin_letter(tables: &[u8], running: &mut [u8], out: &mut [u8], offset: u64) 
                 lent::size64(tables::phrase_count(tables)),
             ),
         },
-        Begun::TooSmall => Opened::Refused { end: 0 },
-        Begun::NotTables => Opened::Refused { end: 0 },
+        Begun::TooSmall | Begun::NotTables => Opened::Refused { end: 0 },
     }
 }
 
@@ -106,35 +77,6 @@ pub fn list_part(
             end: put_hits(tables, room, reports, out),
         },
         Fed::TooLong => Listed::TooLong,
-        Fed::TooSmall => Listed::NotTaken,
-        Fed::NotTables => Listed::NotTaken,
-        Fed::NoRoom => Listed::NotTaken,
+        Fed::TooSmall | Fed::NotTables | Fed::NoRoom => Listed::NotTaken,
     }
-}
-
-// Whether a letter had no hits.
-fn without_hits(hits: u64) -> bool
-    ensures { λ r. ⌜ r ≡ withoutHits hits ⌝ }
-{
-    hits == 0
-}
-
-// The end line, and `no statement` behind it where there were no hits.
-pub fn last_lines(out: &mut [u8], taken: Place, hits: u64, steps: u64) -> usize
-    ensures { λ r. ⌜ LastPromise (now (out .entry)) (taken .0) hits steps (left (now (out .exit)) r) ⌝ }
-    ensures { λ r. ⌜ r ≤ length (now (out .entry)) ⌝ }
-{
-    let end = end_line(out, 0, taken, hits, steps);
-    if without_hits(hits) {
-        return no_statement(out, end);
-    }
-    end
-}
-
-// The line of a letter that is too long, in place of the last lines: the bytes taken before the part that was refused.
-pub fn too_long_line(out: &mut [u8], taken: Place) -> usize
-    ensures { λ r. ⌜ TooLongPromise (now (out .entry)) (taken .0) (left (now (out .exit)) r) ⌝ }
-    ensures { λ r. ⌜ r ≤ length (now (out .entry)) ⌝ }
-{
-    letter_line(out, 0, taken)
 }

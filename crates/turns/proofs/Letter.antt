@@ -19,7 +19,7 @@ use Rattle.format.specs.Limits.{mostPhrases}
 use Rattle.scanner.specs.Meant.{TablesOf, RunningOf}
 use Rattle.listing.specs.Lines.{letterLine, longestLine}
 use Rattle.listing.specs.Listing.{partLength, wholeParts, hitLines, lastLines, wholeLetter, cutLetter, letterLines}
-use Rattle.parts.proofs.Texts.{last-text, too-long-text}
+use Rattle.lines.proofs.Texts.{last-text, too-long-text}
 use Rattle.turns.specs.Turns.{Lent, Totals, noTotals, partBegin, partUsed, remaining, lastText, tooLongText, turnsFrom}
 use Rattle.turns.proofs.Few.{reports-few}
 use Rattle.turns.proofs.Turn.{Stands, turn-too-long}

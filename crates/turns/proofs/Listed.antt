@@ -7,10 +7,10 @@ use Prim.Native.Nat.{ℕ}
 use lib.ListN.{length}
 use Rattle.format.specs.Judged.{Judgement, accepted, refused, judged}
 use Rattle.listing.specs.Listing.{bookIn, letterIn, linesOf, listing}
+use Rattle.lines.specs.declared.answers.Opened.{Opened}
 use Rattle.parts.specs.Exact.{OpenEnd}
 use Rattle.parts.specs.Meant.{openedText, OpensAs}
 use Rattle.parts.specs.Promised.{OpenPromise}
-use Rattle.parts.specs.declared.Opened.{Opened}
 use Rattle.turns.specs.Turns.{Lent, noTotals, turnsFrom, opening, written, Enough}
 use Rattle.turns.proofs.Letter.{letter-written}
 

@@ -17,11 +17,11 @@ use Rattle.format.specs.Limits.{mostPhrases}
 use Rattle.scanner.specs.Meant.{TablesOf, RunningOf}
 use Rattle.listing.specs.Lines.{longestLine}
 use Rattle.listing.specs.Listing.{hitLines}
-use Rattle.parts.specs.Answers.{listedTaken, listedHits, listedSteps}
+use Rattle.lines.specs.Answers.{listedTaken, listedHits, listedSteps}
+use Rattle.lines.specs.declared.answers.Listed.{Listed}
+use Rattle.lines.specs.declared.answers.Listed.the-variants as listed
 use Rattle.parts.specs.Exact.{ListEnd, listOf}
 use Rattle.parts.specs.Meant.{listedText, ListTook}
-use Rattle.parts.specs.declared.Listed.{Listed}
-use Rattle.parts.specs.declared.Listed.the-variants as listed
 use Rattle.parts.proofs.Meant.{list-means}
 use Rattle.turns.specs.Turns.{Lent, Totals, added, totalsWith, remaining, onward, tooLongText, turnsFrom}
 use Rattle.turns.proofs.Few.{reports-few}

@@ -9,13 +9,14 @@ use Rattle.tables.specs.Layout.{tablesSize}
 use Rattle.running.specs.Layout.{runningSize}
 use Rattle.listing.specs.Lines.{longestLine}
 use Rattle.listing.specs.Listing.{partLength}
-use Rattle.parts.specs.Answers.{listedTaken, listedHits, listedSteps}
-use Rattle.parts.specs.Exact.{OpenEnd, ListEnd, listOf, lastOf, tooLongOf}
-use Rattle.parts.specs.Meant.{textOf, openedText, listedText}
-use Rattle.parts.specs.declared.Opened.{Opened}
-use Rattle.parts.specs.declared.Opened.the-variants as opened
-use Rattle.parts.specs.declared.Listed.{Listed}
-use Rattle.parts.specs.declared.Listed.the-variants as listed
+use Rattle.lines.specs.Answers.{listedTaken, listedHits, listedSteps}
+use Rattle.lines.specs.Last.{textOf, lastOf, tooLongOf}
+use Rattle.lines.specs.declared.answers.Opened.{Opened}
+use Rattle.lines.specs.declared.answers.Opened.the-variants as opened
+use Rattle.lines.specs.declared.answers.Listed.{Listed}
+use Rattle.lines.specs.declared.answers.Listed.the-variants as listed
+use Rattle.parts.specs.Exact.{OpenEnd, ListEnd, listOf}
+use Rattle.parts.specs.Meant.{openedText, listedText}
 
 -- What one turn is lent beside the memories, whatever it held: room for reports, and a buffer for their lines.
 pub record Lent : Type 0 where

@@ -3,9 +3,7 @@ use mathlib.Core.Path.{ap, _∙_}
 use Prim.Native.Nat.{ℕ}
 use Rattle.listing.specs.Lines.{bookLine}
 use Rattle.listing.specs.Writing.{withLine}
-use Rattle.parts.specs.Exact.{readyAs}
-use Rattle.scanner.specs.declared.Begun.the-variants as begun
-use Rattle.parts.proofs.Opens.{begun-whole, begun-as, begun-ready}
+use Rattle.parts.proofs.Opens.{begun-whole, begun-refused, begun-ready}
 use borrow.Author.Needs.{needs}
 use Rattle.parts.proofs.begin_letter.Statement.{statement}
 use Rattle.parts.proofs.begin_letter.Tie as tie
@@ -27,12 +25,6 @@ size64-requires c κs = search needs
 book-line-requires : tie.Need-book-line-requires
 book-line-requires c κs = search needs
 
-enum-told-2 : tie.Need-enum-told-2
-enum-told-2 c = search needs
-
-enum-told-3 : tie.Need-enum-told-3
-enum-told-3 c = search needs
-
 same-length : tie.Need-same-length
 same-length c = search needs
 
@@ -49,19 +41,9 @@ same-length-3 : tie.Need-same-length-3
 same-length-3 c = search needs
 
 returns-2 : tie.Need-returns-2
-unfolding readyAs
 returns-2 c =
-    let a = c .before .before .before .before .before .before .before .before .before .args in
-    begun-as (a .tables .now) (a .running .now) (a .out .now) (a .offset) _ (c .before .before .before .before .begin .ensures .exact) begun.TooSmall (c .enum-told2 .given .1)
-
-same-length-4 : tie.Need-same-length-4
-same-length-4 c = search needs
-
-returns-3 : tie.Need-returns-3
-unfolding readyAs
-returns-3 c =
-    let a = c .before .before .before .before .before .before .before .before .before .args in
-    begun-as (a .tables .now) (a .running .now) (a .out .now) (a .offset) _ (c .before .before .before .before .begin .ensures .exact) begun.NotTables (c .enum-told3 .given .1)
+    let a = c .before .before .before .before .before .before .before .before .args in
+    begun-refused (a .tables .now) (a .running .now) (a .out .now) (a .offset) _ (c .before .before .before .begin .ensures .exact) (c .match .keys2)
 
 pub begin-letter-spec : {M : Type 1} → statement M
 begin-letter-spec =
@@ -72,12 +54,8 @@ begin-letter-spec =
     phrase-count-requires
     size64-requires
     book-line-requires
-    enum-told-2
-    enum-told-3
     same-length
     same-length-2
     returns
     same-length-3
-    returns-2
-    same-length-4
-    returns-3)
+    returns-2)

@@ -3,7 +3,7 @@ use native.Mathlib.Omega.{arith}
 use Rattle.scanner.specs.declared.Fed.the-variants as fed
 use Rattle.parts.specs.Exact.{listedAs}
 use Rattle.parts.proofs.Meant.{list-promised}
-use Rattle.parts.proofs.Lists.{fed-told, listed-as, listed-took, list-within}
+use Rattle.parts.proofs.Lists.{fed-told, listed-as, listed-refused, listed-took, list-within}
 use borrow.Author.Needs.{needs}
 use Rattle.parts.proofs.list_part.Statement.{statement}
 use Rattle.parts.proofs.list_part.Tie as tie
@@ -22,15 +22,6 @@ put-hits-requires c κs =
 
 enum-told : tie.Need-enum-told
 enum-told c = search needs
-
-enum-told-2 : tie.Need-enum-told-2
-enum-told-2 c = search needs
-
-enum-told-3 : tie.Need-enum-told-3
-enum-told-3 c = search needs
-
-enum-told-4 : tie.Need-enum-told-4
-enum-told-4 c = search needs
 
 same-length : tie.Need-same-length
 same-length c = search needs
@@ -71,40 +62,9 @@ same-length-7 : tie.Need-same-length-7
 same-length-7 c = search needs
 
 returns-3 : tie.Need-returns-3
-unfolding listedAs
 returns-3 c =
-    let a = c .before .before .before .before .before .before .before .before .before .before .before .before .before .before .args in
-    let all = listed-as (a .tables .now) (a .running .now) (a .part .now) (a .room .now) (a .out .now) _ (c .before .before .before .before .before .before .feed .ensures .exact) fed.TooSmall (c .enum-told2 .given .1) in (
-      list-promised (a .tables .now) (a .running .now) (a .part .now) (a .room .now) (a .out .now) _ all,
-      list-within (a .tables .now) (a .running .now) (a .part .now) (a .room .now) (a .out .now) _ all,
-    )
-
-same-length-8 : tie.Need-same-length-8
-same-length-8 c = search needs
-
-same-length-9 : tie.Need-same-length-9
-same-length-9 c = search needs
-
-returns-4 : tie.Need-returns-4
-unfolding listedAs
-returns-4 c =
-    let a = c .before .before .before .before .before .before .before .before .before .before .before .before .before .before .args in
-    let all = listed-as (a .tables .now) (a .running .now) (a .part .now) (a .room .now) (a .out .now) _ (c .before .before .before .before .before .before .feed .ensures .exact) fed.NotTables (c .enum-told3 .given .1) in (
-      list-promised (a .tables .now) (a .running .now) (a .part .now) (a .room .now) (a .out .now) _ all,
-      list-within (a .tables .now) (a .running .now) (a .part .now) (a .room .now) (a .out .now) _ all,
-    )
-
-same-length-10 : tie.Need-same-length-10
-same-length-10 c = search needs
-
-same-length-11 : tie.Need-same-length-11
-same-length-11 c = search needs
-
-returns-5 : tie.Need-returns-5
-unfolding listedAs
-returns-5 c =
-    let a = c .before .before .before .before .before .before .before .before .before .before .before .before .before .before .args in
-    let all = listed-as (a .tables .now) (a .running .now) (a .part .now) (a .room .now) (a .out .now) _ (c .before .before .before .before .before .before .feed .ensures .exact) fed.NoRoom (c .enum-told4 .given .1) in (
+    let a = c .before .before .before .before .before .before .before .before .before .before .before .before .before .args in
+    let all = listed-refused (a .tables .now) (a .running .now) (a .part .now) (a .room .now) (a .out .now) _ (c .before .before .before .before .before .feed .ensures .exact) (c .match .keys3) in (
       list-promised (a .tables .now) (a .running .now) (a .part .now) (a .room .now) (a .out .now) _ all,
       list-within (a .tables .now) (a .running .now) (a .part .now) (a .room .now) (a .out .now) _ all,
     )
@@ -117,9 +77,6 @@ list-part-spec =
     enum-known-fed
     put-hits-requires
     enum-told
-    enum-told-2
-    enum-told-3
-    enum-told-4
     same-length
     same-length-2
     same-length-3
@@ -129,10 +86,4 @@ list-part-spec =
     returns-2
     same-length-6
     same-length-7
-    returns-3
-    same-length-8
-    same-length-9
-    returns-4
-    same-length-10
-    same-length-11
-    returns-5)
+    returns-3)

@@ -1,93 +1,59 @@
--- The hit lines end inside their buffer, and no more is taken than was offered: both are bounds of `parts`.
--- Assumes nothing.
-use mathlib.Core.Path.{sym}
-use lib.Seq.{length-take-le}
-use native.Mathlib.Omega.{arith}
+-- What is taken was left of the part, and the hit lines end inside their buffer: both are bounds of `parts`. Assumes nothing.
+use mathlib.Core.Path.{sym, subst}
+use Prim.Native.Nat.{ℕ, _≤_}
 use borrow.Author.Needs.{needs}
-use Rattle.parts.specs.Answers.{listedTaken, listedEnd}
+use Rattle.lines.specs.Answers.{listedTaken, listedEnd}
+use Rattle.stream.proofs.Arrays.{counted}
+use Rattle.stream.proofs.Left.{taken-left}
 use Rattle.stream.proofs.letter.list_some.Statement.{statement}
 use Rattle.stream.proofs.letter.list_some.Tie as tie
 
+sub-list-part : tie.Need-sub-list-part
+sub-list-part c = search needs
+
+part-list-part-start : tie.Need-part-list-part-start
+part-list-part-start c = search needs
+
+part-list-part-end : tie.Need-part-list-part-end
+part-list-part-end c = search needs
+
 slice-aggregate-list-part : tie.Need-slice-aggregate-list-part
-slice-aggregate-list-part c = search needs
+slice-aggregate-list-part c = counted _
 
 slice-aggregate-list-part-2 : tie.Need-slice-aggregate-list-part-2
-slice-aggregate-list-part-2 c = search needs
+slice-aggregate-list-part-2 c = counted _
 
 list-part-requires : tie.Need-list-part-requires
-list-part-requires c κs = search needs
+list-part-requires c κs = tt
 
-enum-known-listed : tie.Need-enum-known-listed
-enum-known-listed c = search needs
+slice-aggregate-after : tie.Need-slice-aggregate-after
+slice-aggregate-after c = sym (c .before .before .before .before .before .list-part .kept .1 .1 .1 .1 .0)
 
-array-share-prefix-lines : tie.Need-array-share-prefix-lines
-unfolding listedEnd
-array-share-prefix-lines c = omega (arith, rw (c .before .listed .given .1) at (c .before .before .before .before .before .before .before .list-part .ensures .1 .1))
-
-slice-aggregate-write-all : tie.Need-slice-aggregate-write-all
-unfolding listedEnd
-slice-aggregate-write-all c = sym (length-take-le _ _ (omega (arith, rw (c .before .before .listed .given .1) at (c .before .before .before .before .before .before .before .before .list-part .ensures .1 .1))))
-
-write-all-requires : tie.Need-write-all-requires
-write-all-requires c κs = search needs
+after-requires : tie.Need-after-requires
+after-requires c κs =
+    let a = c .before .before .before .before .before .before .before .before .before .before .before .before .before .args in
+    let call = c .before .before .before .before .before .list-part in (
+      taken-left (a .part .now) (a .standing .used) (a .standing .size) (listedTaken (call .result)) (c .before .before .before .before .before .before .before .before .before .before .before .before .before .pre .0) (call .ensures .1 .0),
+      subst (λ (n : ℕ). listedEnd (call .result) ≤ n) (sym (call .kept .1 .1 .1 .1 .0)) (call .ensures .1 .1),
+    )
 
 same-length : tie.Need-same-length
-same-length c = search needs
+same-length c = c .before .before .before .before .before .before .list-part .kept .1 .0
 
 returns : tie.Need-returns
-returns c = search needs
-
-plus-requires : tie.Need-plus-requires
-plus-requires c κs = search needs
-
-enum-told : tie.Need-enum-told
-enum-told c = search needs
-
-write-too-long-requires : tie.Need-write-too-long-requires
-write-too-long-requires c κs = search needs
-
-enum-told-2 : tie.Need-enum-told-2
-enum-told-2 c = search needs
-
-same-length-2 : tie.Need-same-length-2
-same-length-2 c = search needs
-
-returns-2 : tie.Need-returns-2
-unfolding listedTaken
-returns-2 c = rw (c .before .before .before .before .before .listed .given .1) at (c .before .before .before .before .before .before .before .before .before .before .before .list-part .ensures .1 .0)
-
-same-length-3 : tie.Need-same-length-3
-same-length-3 c = search needs
-
-returns-3 : tie.Need-returns-3
-returns-3 c = search needs
-
-same-length-4 : tie.Need-same-length-4
-same-length-4 c = search needs
-
-returns-4 : tie.Need-returns-4
-returns-4 c = search needs
+returns c = c .after .ensures
 
 pub list-some-spec : {M : Type 1} → statement M
 list-some-spec =
     tie.close
     (tie.spec
+    sub-list-part
+    part-list-part-start
+    part-list-part-end
     slice-aggregate-list-part
     slice-aggregate-list-part-2
     list-part-requires
-    enum-known-listed
-    array-share-prefix-lines
-    slice-aggregate-write-all
-    write-all-requires
+    slice-aggregate-after
+    after-requires
     same-length
-    returns
-    plus-requires
-    enum-told
-    write-too-long-requires
-    enum-told-2
-    same-length-2
-    returns-2
-    same-length-3
-    returns-3
-    same-length-4
-    returns-4)
+    returns)

@@ -1,0 +1,4 @@
+pub mod Answers
+pub mod Rights
+pub mod Hits
+pub mod Last

@@ -1,0 +1,2 @@
+mod Arrays
+mod Left

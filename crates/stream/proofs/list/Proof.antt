@@ -1,0 +1,31 @@
+-- Two bytes say no more than the buffer holds, and reading keeps its length. Assumes nothing.
+use mathlib.Core.Path.{sym}
+use native.Mathlib.Nat.{le-of-eq}
+use Rattle.stream.proofs.Arrays.{counted}
+use Rattle.stream.proofs.list.Statement.{statement}
+use Rattle.stream.proofs.list.Tie as tie
+
+slice-aggregate-sized-book : tie.Need-slice-aggregate-sized-book
+slice-aggregate-sized-book c = counted _
+
+sized-book-requires : tie.Need-sized-book-requires
+sized-book-requires c κs = le-of-eq (counted _)
+
+slice-aggregate-list-came : tie.Need-slice-aggregate-list-came
+slice-aggregate-list-came c = sym (c .before .before .sized-book .kept .1 .0)
+
+list-came-requires : tie.Need-list-came-requires
+list-came-requires c κs = c .before .before .sized-book .ensures
+
+returns : tie.Need-returns
+returns c = tt
+
+pub list-spec : {M : Type 1} → statement M
+list-spec =
+    tie.close
+    (tie.spec
+    slice-aggregate-sized-book
+    sized-book-requires
+    slice-aggregate-list-came
+    list-came-requires
+    returns)

@@ -1,0 +1,30 @@
+-- Reading keeps the length of the buffer. Assumes nothing.
+use mathlib.Core.Path.{sym}
+use Rattle.stream.proofs.Arrays.{counted}
+use Rattle.stream.proofs.list_two.Statement.{statement}
+use Rattle.stream.proofs.list_two.Tie as tie
+
+slice-aggregate-whole-book : tie.Need-slice-aggregate-whole-book
+slice-aggregate-whole-book c = counted _
+
+whole-book-requires : tie.Need-whole-book-requires
+whole-book-requires c κs = tt
+
+slice-aggregate-list-came : tie.Need-slice-aggregate-list-came
+slice-aggregate-list-came c = sym (c .before .before .whole-book .kept .1 .0)
+
+list-came-requires : tie.Need-list-came-requires
+list-came-requires c κs = c .before .before .whole-book .ensures
+
+returns : tie.Need-returns
+returns c = tt
+
+pub list-two-spec : {M : Type 1} → statement M
+list-two-spec =
+    tie.close
+    (tie.spec
+    slice-aggregate-whole-book
+    whole-book-requires
+    slice-aggregate-list-came
+    list-came-requires
+    returns)

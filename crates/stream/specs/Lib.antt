@@ -1,2 +1,0 @@
-pub mod Letter
-pub mod Reading
