@@ -48,24 +48,27 @@ leave() {
     rmdir "$lock"
 }
 
-# Proves and builds a program, with a line on standard error for each crate. Four crates at a time, so that no processor waits.
+# Proves and builds a program, with a line on standard error for each crate.
 build() { # PROGRAM
     say 'the program is proved and built now; this takes some minutes, once'
     log=$top/target/$1-log
     guide=$(rt doc) || fail 'the toolchain does not answer'
     printf '%s\n' "${guide%/docs/*}/on/$(uname -m)/toolchain" >"$mark.new"
     ended=$({
-        { (cd "$top" && RT_JOBS=${RT_JOBS:-4} rt check "$1") </dev/null 2>&1; echo $? >&3; } | tee "$log" | progress >&2
+        { "$top/tools/prove.sh" "$1" </dev/null 2>&1; echo $? >&3; } | tee "$log" | progress >&2
     } 3>&1)
     [ "$ended" = 0 ] || fail "the program could not be proved and built; $log has what the toolchain said"
     mv "$mark.new" "$mark"
     say 'the program is built'
 }
 
-# Of what the toolchain says, the line of each crate.
+# Of what the toolchain says, the line of each crate that it proved now.
 progress() {
     while IFS= read -r line; do
-        case $line in 'rt: '*) say "${line#rt: }" ;; esac
+        case $line in
+        *'(unchanged since it was last proved)' | 'rt: ok, '*) ;;
+        'rt: '*) say "${line#rt: }" ;;
+        esac
     done
 }
 

@@ -1,0 +1,83 @@
+#!/bin/sh
+# prove.sh PROGRAM: proves all that a program stands on, then the program: each crate as soon as what it stands on is proved, so that no processor waits. (`rt check`
+# by itself starts no crate of a level before all of the level below are proved.) Every verdict is the toolchain's: it is asked for one crate at a time, in a folder
+# whose crates.txt has the line of that crate alone and whose crates/ and target/ are the repository's. At the end it is asked for the program in the repository
+# itself: it holds every crate to its files once more, and proves, builds and runs the program.
+# Writes what the toolchain says. Status: 0 if the program is proved and built.
+set -u
+top=$(cd "$(dirname -- "$0")/.." && pwd -P) || exit 2
+program=$1
+
+# The crates proved at a time: one for each processor, but four at most, as the toolchain has it; one can take 2 GB.
+seats=${RT_JOBS:-$(nproc 2>/dev/null || echo 1)}
+[ -n "${RT_JOBS:-}" ] || [ "$seats" -le 4 ] || seats=4
+
+# The crates below the program, a line each: how long the row of crates is that waits for it, its name, and what it stands on. The longest row comes first.
+plan() {
+    PROGRAM=$program awk '
+        function visit(n,    a, k, m) {
+            if (n in seen) return
+            seen[n] = 1
+            m = split(below[n], a, " ")
+            for (k = 1; k <= m; k++) if (a[k] in below) visit(a[k])
+            order[++count] = n
+        }
+        { sub(/#.*/, ""); i = index($0, ":") }
+        i { n = substr($0, 1, i - 1); gsub(/[ \t]/, "", n); below[n] = substr($0, i + 1) }
+        END {
+            visit(ENVIRON["PROGRAM"])
+            for (j = count; j > 0; j--) {
+                m = split(below[order[j]], a, " ")
+                for (k = 1; k <= m; k++) if (row[a[k]] <= row[order[j]]) row[a[k]] = row[order[j]] + 1
+            }
+            for (j = 1; j < count; j++) print row[order[j]], order[j] ":" below[order[j]]
+        }' "$top/crates.txt" | sort -s -n -r -k 1,1
+}
+
+# Whether all crates of the repository that a line names behind its colon are proved.
+may_start() { # LINE
+    for below in ${1#*:}; do
+        case $proved in *" $below "*) continue ;; esac
+        [ ! -d "$top/crates/$below" ] || return 1
+    done
+}
+
+# Asks the toolchain for one crate, and tells when it has answered.
+prove_one() { # LINE
+    crate=${1%%:*}
+    alone=$folders/$crate
+    mkdir -p "$alone" && printf '%s\n' "$1" >"$alone/crates.txt" && ln -sfn ../../../crates "$alone/crates" && ln -sfn ../../../target "$alone/target" &&
+        cd "$alone" && rt check "$crate" >"$alone/said" 2>&1
+    echo "$crate $?" >&3
+}
+
+folders=$top/target/one
+mkdir -p "$folders" || exit 2
+answers=$folders/answers
+rm -f "$answers"
+mkfifo "$answers" && exec 3<>"$answers" || exit 2
+
+left=$(plan) proved=' ' running=0 status=0
+while [ -n "$left" ] || [ "$running" -gt 0 ]; do
+    later=
+    while read -r row line; do
+        [ -n "$row" ] || continue
+        if [ "$running" -lt "$seats" ] && may_start "$line"; then
+            prove_one "$line" </dev/null &
+            running=$((running + 1))
+        else
+            later="$later$row $line
+"
+        fi
+    done <<END
+$left
+END
+    left=${later%?}
+    [ "$running" -gt 0 ] || { echo "rt: crates.txt: the crates stand on each other in a circle"; exit 2; }
+    read -r crate answer <&3
+    running=$((running - 1))
+    sed '/^rt: ok, /d' "$folders/$crate/said"
+    if [ "$answer" = 0 ]; then proved="$proved$crate "; else status=1 left=; fi
+done
+[ "$status" -eq 0 ] || exit "$status"
+cd "$top" && rt check "$program"
