@@ -1,7 +1,11 @@
 -- The reading goes from mark to mark: at each turn one report is written, and what is left to write comes to the same goal.
 -- The measure is how many ranks are left. Assumes nothing.
-use Prim.Native.Nat.{_-_}
+use mathlib.Core.Path.{ap, _∙_}
+use mathlib.Core.List.{[], _∷_}
+use Prim.Native.Nat.{_-_, _*_}
 use native.Mathlib.Omega.{arith}
+use Rattle.lent.specs.Numbers.{withBytes}
+use Rattle.marks.specs.Reported.{entries}
 use Rattle.marks.proofs.Reported.{Reading, reading-start, reading-next, reading-end}
 use Rattle.marks.proofs.put_reports.Statement.{statement}
 use Rattle.marks.proofs.put_reports.Tie as tie
@@ -52,9 +56,10 @@ loop-again c =
     let at = c .before .before .before .before .before .before .before in
     let a = at .before .before .before .before .before .args in
     let put = c .before .before .before .put-report in
+    let wrote = put .ensures ∙ ap (λ j. withBytes (at .loop .room) (2 * at .loop .count) (entries (a .t .now) (a .place .0) (j ∷ []))) (c .before .before .before .before .of .ensures) in
     reading-next (a .t .now) (a .place .0) (a .marks) (record { written = a .written; room = a .room .now }) (at .before .before .phrase-count .result)
     (at .loop .room) (at .loop .count) (at .loop .rank) (at .loop .inv) (omega arith) (omega arith)
-    (put .last .1 .0) (cc) (c .next-marked2 .result) (c .next-marked2 .ensures)
+    (put .last .1 .0) wrote (c .next-marked2 .result) (c .next-marked2 .ensures)
 
 same-length : tie.Need-same-length Inv-loop μ-loop
 same-length c = omega arith
