@@ -1,7 +1,8 @@
 -- The two returns are the two sides of the test on the column.
 -- Assumes nothing.
-use mathlib.Core.Path.{sym}
+use mathlib.Core.Path.{sym, ap₂, _∙_}
 use native.Mathlib.Omega.{arith}
+use Rattle.tables.specs.Reads.{cellIn}
 use Rattle.seeking.proofs.Seeking.{row-none, row-cell}
 use borrow.Author.Needs.{needs}
 use Rattle.seeking.proofs.row.Statement.{statement}
@@ -30,7 +31,8 @@ cell-requires c κs = search needs
 returns-2 : tie.Need-returns-2
 returns-2 c =
     let a = c .before .before .before .before .before .args in
-    (cc (row-cell (a .t .now) (a .states) (a .dense) (a .byte) (omega arith) (a .index) (omega arith)), omega arith)
+    let cell = c .cell .ensures .0 ∙ ap₂ (cellIn (a .t .now)) (c .before .before .before .column .ensures .0) (c .before .state-at .ensures) in
+    (cell ∙ sym (row-cell (a .t .now) (a .states) (a .dense) (a .byte) (omega arith) (a .index) (omega arith)), omega arith)
 
 pub row-spec : {M : Type 1} → statement M
 row-spec =
