@@ -12,7 +12,7 @@ fn larger(a: u16, b: u16) -> u16
     if a < b { b } else { a }
 }
 
-// The last place at which the column of a byte begins.
+// The last offset at which the column of a byte begins.
 fn farthest_column(t: &[u8]) -> u16
     requires { ⌜ Whole (now t) ⌝ }
     ensures { λ r. ⌜ r ≡ farthest (now (t .entry)) 256 ⌝ }

@@ -62,7 +62,7 @@ fn columns_at(
     }
 }
 
-// The cell of a state in the column that begins at a place. The column is a part of the memory.
+// The cell of a state in the column that begins at an offset. The column is a part of the memory.
 fn cell_of(t: &[u8], column: usize, index: usize) -> usize
     requires { ⌜ column + 2 * index + 2 ≤ length (now t) ⌝ }
     ensures { λ r. ⌜ r ≡ cellIn (now (t .entry)) column index ⌝ }

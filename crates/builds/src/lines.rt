@@ -83,7 +83,7 @@ fn report(what: &[u8], answer: Built, memory: &[u8; MEMORY]) {
 }
 
 // Builds the first so many bytes of a sheet into the first so many bytes of the memory, and writes the line.
-pub fn line(what: &[u8], book: &[u8], end: usize, lent: usize) {
+pub(crate) fn line(what: &[u8], book: &[u8], end: usize, lent: usize) {
     let mut memory = old();
     if book.len() < end {
         return;
@@ -96,7 +96,7 @@ pub fn line(what: &[u8], book: &[u8], end: usize, lent: usize) {
 }
 
 // The same memory twice: the second book leaves nothing of the first.
-pub fn again(what: &[u8], book: &[u8], first: usize, second: usize) {
+pub(crate) fn again(what: &[u8], book: &[u8], first: usize, second: usize) {
     let mut memory = old();
     if book.len() < first {
         return;

@@ -1,4 +1,4 @@
-// The calls of a desk, for programs in C or Rust: every argument is a number or a slice, every answer is made of numbers. A slice comes
+// The calls of a desk, for programs in C or Rust: every argument is a slice, every answer is made of numbers. A slice comes
 // as a pointer and the number of its elements. No call asks anything of what the lent memory holds, and none keeps anything between calls.
 ghost use mathlib.Core.Path.{_≡_};
 ghost use Rattle.tables.specs.Layout.{tablesSize};

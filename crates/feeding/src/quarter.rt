@@ -6,7 +6,7 @@ use crate::Progress;
 use crate::progress_on;
 use crate::way_from;
 
-// The same as the rest of a part that ends with quarter k, whose states are known.
+// Takes the bytes of quarter k, with which the part ends, while there is room: their states are known.
 pub fn take_quarter(
     t: &[u8],
     m: &mut [u8],

@@ -8,9 +8,9 @@ ghost use Rattle.filling.specs.Keywords.{offsetValues, Inside};
 ghost use Rattle.filling.specs.Onward.{goesOn, withKeyword, onwardFrom};
 
 // How many values a byte has, and how many keywords a book can have.
-pub const BYTES: usize = 256;
+pub const BYTES: usize = tables::layout::BYTE_VALUES;
 
-pub const KEYWORDS: usize = 256;
+pub const KEYWORDS: usize = tables::layout::ROOM_FOR_PIECES;
 
 // A stretch of the book: so many bytes from an offset on. A keyword is one, and so are the bytes of a state.
 pub struct Stretch {

@@ -1,4 +1,4 @@
-// Numbers in lent bytes, read and written at a place: of 2, 4 and 8 bytes low byte first, and of 2 bytes high byte first; and
+// Numbers in lent bytes, read and written at an offset: of 2, 4 and 8 bytes low byte first, and of 2 bytes high byte first; and
 // bytes made zero.
 ghost use mathlib.Core.Path.{_≡_};
 ghost use Prim.Native.Nat.{_+_, _≤_, _<_};
@@ -80,7 +80,7 @@ pub fn size64(x: usize) -> u64
     x as u64
 }
 
-// The number of 2 bytes at a place, low byte first.
+// The number of 2 bytes at an offset, low byte first.
 pub fn get2(s: &[u8], at: usize) -> u16
     requires { ⌜ at + 2 ≤ length (now s) ⌝ }
     ensures { λ r. ⌜ r ≡ numberAt 2 (now (s .entry)) at ⌝ }
@@ -88,7 +88,7 @@ pub fn get2(s: &[u8], at: usize) -> u16
     wide(s[at]) + BYTE * wide(s[at + 1])
 }
 
-// The number of 4 bytes at a place: its low half, then its high half.
+// The number of 4 bytes at an offset: its low half, then its high half.
 pub fn get4(s: &[u8], at: usize) -> u32
     requires { ⌜ at + 4 ≤ length (now s) ⌝ }
     ensures { λ r. ⌜ r ≡ numberAt 4 (now (s .entry)) at ⌝ }
@@ -96,7 +96,7 @@ pub fn get4(s: &[u8], at: usize) -> u32
     pair32(get2(s, at)) + PAIR * pair32(get2(s, at + 2))
 }
 
-// The number of 8 bytes at a place: its low half, then its high half.
+// The number of 8 bytes at an offset: its low half, then its high half.
 pub fn get8(s: &[u8], at: usize) -> u64
     requires { ⌜ at + 8 ≤ length (now s) ⌝ }
     ensures { λ r. ⌜ r ≡ numberAt 8 (now (s .entry)) at ⌝ }
@@ -104,7 +104,7 @@ pub fn get8(s: &[u8], at: usize) -> u64
     four64(get4(s, at)) + FOUR * four64(get4(s, at + HALF))
 }
 
-// The number of 2 bytes at a place, high byte first.
+// The number of 2 bytes at an offset, high byte first.
 pub fn get2_high(s: &[u8], at: usize) -> u16
     requires { ⌜ at + 2 ≤ length (now s) ⌝ }
     ensures { λ r. ⌜ r ≡ highNumberAt 2 (now (s .entry)) at ⌝ }
@@ -112,7 +112,7 @@ pub fn get2_high(s: &[u8], at: usize) -> u16
     BYTE * wide(s[at]) + wide(s[at + 1])
 }
 
-// Writes a number of 2 bytes at a place, low byte first.
+// Writes a number of 2 bytes at an offset, low byte first.
 pub fn put2(s: &mut [u8], at: usize, v: u16)
     requires { ⌜ at + 2 ≤ length (now s) ⌝ }
     ensures { λ _. ⌜ now (s .exit) ≡ withNumber 2 (now (s .entry)) at v ⌝ }
@@ -121,7 +121,7 @@ pub fn put2(s: &mut [u8], at: usize, v: u16)
     s[at + 1] = (v / BYTE) as u8;
 }
 
-// Writes a number of 4 bytes at a place: its low half, then its high half.
+// Writes a number of 4 bytes at an offset: its low half, then its high half.
 pub fn put4(s: &mut [u8], at: usize, v: u32)
     requires { ⌜ at + 4 ≤ length (now s) ⌝ }
     ensures { λ _. ⌜ now (s .exit) ≡ withNumber 4 (now (s .entry)) at v ⌝ }
@@ -130,7 +130,7 @@ pub fn put4(s: &mut [u8], at: usize, v: u32)
     put2(s, at + 2, (v / PAIR) as u16);
 }
 
-// Writes a number of 8 bytes at a place: its low half, then its high half.
+// Writes a number of 8 bytes at an offset: its low half, then its high half.
 pub fn put8(s: &mut [u8], at: usize, v: u64)
     requires { ⌜ at + 8 ≤ length (now s) ⌝ }
     ensures { λ _. ⌜ now (s .exit) ≡ withNumber 8 (now (s .entry)) at v ⌝ }
@@ -139,7 +139,7 @@ pub fn put8(s: &mut [u8], at: usize, v: u64)
     put4(s, at + HALF, (v / FOUR) as u32);
 }
 
-// Writes a number of 2 bytes at a place, high byte first.
+// Writes a number of 2 bytes at an offset, high byte first.
 pub fn put2_high(s: &mut [u8], at: usize, v: u16)
     requires { ⌜ at + 2 ≤ length (now s) ⌝ }
     ensures { λ _. ⌜ now (s .exit) ≡ withHighNumber 2 (now (s .entry)) at v ⌝ }

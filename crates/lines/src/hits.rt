@@ -10,7 +10,7 @@ use crate::rights::rights_of;
 use counters::Number;
 use counters::Place;
 
-// How many phrase numbers there can be.
+// How many numbers two bytes can hold.
 const NUMBERS: u32 = 65536;
 
 // Writes the line of report i, from `at` on.

@@ -17,7 +17,7 @@ use counters::Rank;
 const HALF: usize = 64;
 
 // How many ranks have a mark.
-const RANKS: usize = 128;
+const RANKS: usize = tables::layout::ROOM_FOR_PHRASES;
 
 // A mark for each phrase of a book, by its rank: the ranks below 64 in the low number, those from 64 on in the high one.
 pub struct Marks {
@@ -76,7 +76,7 @@ fn put_report(t: &[u8], room: &mut [u32], written: usize, rank: Rank, place: Pla
 }
 
 // Writes the reports of a place behind those written before: the marks are read off from the lowest rank to the highest,
-// and the ranks are in the order of the phrase numbers. Returns how many reports the room then has.
+// and the ranks are in the order of the phrase numbers. Answers how many reports the room then has.
 pub fn put_reports(t: &[u8], room: &mut [u32], written: usize, marks: Marks, place: Place) -> usize
     requires { ⌜ (Whole (now t)) × (phraseCountIn (now t) ≤ roomForPhrases) × (2 * (written + phraseCountIn (now t)) ≤ length (now room)) × (InLetter (place .0)) ⌝ }
     ensures { λ r. ⌜ roomWith r (now (room .exit)) ≡ reported (now (t .entry)) (place .0) marks (roomWith written (now (room .entry))) ⌝ }

@@ -123,7 +123,7 @@ fn fed(tables: &[u8], running: &mut [u8], room: &mut [u32]) {
 
 // The line: build's number and offset and how many bytes of the tables it left other than zero; then begin and feed, each with what it says and
 // how much of the running memory and the room is other than before.
-pub fn refused_build() {
+pub(crate) fn refused_build() {
     let mut book = [0u8; BOOK];
     let mut tables = [OLD; TABLES];
     let mut running = [OLD; RUNNING];

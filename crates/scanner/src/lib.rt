@@ -1,4 +1,4 @@
-// The calls of a desk that reads a letter: begin, and then feed, part after part. Each is told what it refuses and why.
+// The calls of a desk that reads a letter: begin, and then feed, part after part. Each says what it refuses and why.
 ghost use mathlib.Core.Path.{_≡_};
 ghost use Prim.Native.Nat.{_≤_};
 ghost use lib.ListN.{length};
@@ -24,21 +24,29 @@ const LARGEST_PLACE: u64 = 4294967295;
 
 // What begin answers.
 pub enum Begun {
+    // the running memory is begun
     Done,
+    // tables or running memory are shorter than their size
     TooSmall,
+    // the tables do not pass the test of document 01
     NotTables,
 }
 
 // What feed answers.
 pub enum Fed {
+    // so many bytes are taken, with so many reports and failure steps
     Took {
         taken: usize,
         reports: usize,
         steps: u64,
     },
+    // tables or running memory are shorter than their size
     TooSmall,
+    // the tables do not pass the test of document 01, or the running memory was not begun with them
     NotTables,
+    // the room is not enough for a report of every phrase
     NoRoom,
+    // the part would pass the largest place
     TooLong,
 }
 

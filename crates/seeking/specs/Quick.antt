@@ -6,7 +6,7 @@ use lib.Dec.{ltb, leb, eqb}
 use Rattle.tables.specs.Reads.{columnIn, cellIn, backIn}
 use Rattle.stepping.specs.Steps.{childByIn}
 
--- The last place at which a column may begin: behind it there is no room for the cells of all dense states.
+-- The last offset at which a column may begin: behind it there is no room for the cells of all dense states.
 abbrev pub lastColumn : ℕ → ℕ
 lastColumn dense = 49152 - 2 * dense
 

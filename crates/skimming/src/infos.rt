@@ -11,7 +11,7 @@ const TWO_ON: usize = 8;
 
 const FOUR_ON: usize = 16;
 
-// What the info of the state at a place says.
+// What the info of the state at an index says.
 fn one(t: &[u8], ahead: &[u16], at: usize) -> u64
     requires { ⌜ InfosReady (now t) (now ahead) at 1 ⌝ }
     ensures { λ r. ⌜ (r ≡ infosIn (now (t .entry)) (now (ahead .entry)) at 1) × (r < 256) ⌝ }

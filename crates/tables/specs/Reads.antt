@@ -36,7 +36,7 @@ markIn t = numberAt 8 t markAt
 abbrev pub columnIn : List ℕ → ℕ → ℕ
 columnIn t byte = numberAt 2 t (columnAt + 2 * byte)
 
--- The cell of state i in the column that begins at a place.
+-- The cell of state i in the column that begins at an offset.
 abbrev pub cellIn : List ℕ → ℕ → ℕ → ℕ
 cellIn t column i = numberAt 2 t (column + 2 * i)
 

@@ -22,7 +22,7 @@ unfoldable pub entryLength : List Part → ℕ
 entryLength [] = 0
 entryLength (part ∷ rest) = part .width + entryLength rest
 
--- The memory holds these parts of entry j, from a place on.
+-- The memory holds these parts of entry j, from an offset on.
 unfoldable pub HoldsParts : List ℕ → List Part → ℕ → ℕ → Type 0
 HoldsParts memory [] j at = Unit {0}
 HoldsParts memory (part ∷ rest) j at = (numberAt (part .width) memory at ≡ part .value j) × HoldsParts memory rest j (at + part .width)
@@ -43,7 +43,7 @@ noPart = record { width = 0; value = λ j. 0 }
 abbrev pub noRegion : Region
 noRegion = record { offset = 0; entries = 0; parts = [] }
 
--- The regions follow each other from a place on, without a byte between them, up to the end.
+-- The regions follow each other from an offset on, without a byte between them, up to the end.
 unfoldable pub tiled : List Region → ℕ → ℕ → Bool
 unfolding entryLength
 tiled [] from end = eqb from end

@@ -103,7 +103,7 @@ pub fn mark(t: &[u8]) -> u64
     lent::get8(t, layout::MARK)
 }
 
-// Where the column of a byte begins: a column has a cell for each state with a row. Read as the columns' own part of the memory, its place is the byte's
+// Where the column of a byte begins: a column has a cell for each state with a row. The region is cut out first: the offset in it is then the byte's
 // alone, and a loop need not reckon it anew; so with the infos below.
 pub fn column(t: &[u8], byte: u8) -> usize
     requires { ⌜ Whole (now t) ⌝ }
@@ -112,7 +112,7 @@ pub fn column(t: &[u8], byte: u8) -> usize
     lent::pair_size(lent::get2(&t[layout::COLUMN..], 2 * lent::wide_size(byte)))
 }
 
-// The number in a state's cell of the column that begins at a place: the next state. The column is a part of the memory.
+// The number in a state's cell of the column that begins at an offset: the next state. The column is a part of the memory.
 pub fn cell(t: &[u8], column: usize, state: State) -> usize
     requires { ⌜ column + 2 * state .0 + 2 ≤ length (now t) ⌝ }
     ensures { λ r. ⌜ (r ≡ cellIn (now (t .entry)) column (state .0)) × (r < 65536) ⌝ }
