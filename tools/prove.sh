@@ -6,7 +6,7 @@
 # Writes what the toolchain says. Status: 0 if the program is proved and built.
 set -u
 top=$(cd "$(dirname -- "$0")/.." && pwd -P) || exit 2
-program=$1
+program=${1:?'prove.sh PROGRAM'}
 
 # The crates proved at a time: one for each processor, but four at most, as the toolchain has it; one can take 2 GB.
 seats=${RT_JOBS:-$(nproc 2>/dev/null || echo 1)}
@@ -42,40 +42,51 @@ may_start() { # LINE
     done
 }
 
-# Asks the toolchain for one crate, and tells when it has answered.
+# Asks the toolchain for one crate, in a session of its own where there is setsid, and tells when it has answered.
 prove_one() { # LINE
     crate=${1%%:*}
     alone=$folders/$crate
-    mkdir -p "$alone" && printf '%s\n' "$1" >"$alone/crates.txt" && ln -sfn ../../../crates "$alone/crates" && ln -sfn ../../../target "$alone/target" &&
-        cd "$alone" && rt check "$crate" >"$alone/said" 2>&1
+    mkdir -p "$alone" && : >"$alone/said" && printf '%s\n' "$1" >"$alone/crates.txt" && ln -sfn "$top/crates" "$alone/crates" && ln -sfn "$top/target" "$alone/target" &&
+        cd "$alone" && {
+        $apart rt check "$crate" >said 2>&1 &
+        echo $! >pid
+        wait $!
+    }
     echo "$crate $?" >&3
 }
 
+apart=$(command -v setsid)
 folders=$top/target/one
 mkdir -p "$folders" || exit 2
 answers=$folders/answers
 rm -f "$answers"
-mkfifo "$answers" && exec 3<>"$answers" || exit 2
+mkfifo "$answers" && exec 3<>"$answers" && rm -f "$answers" || exit 2
 
-left=$(plan) proved=' ' running=0 status=0
+# Interrupted, it ends the proofs that are under way: they would run on beside those of the next run, since a shell's background jobs ignore an interrupt.
+trap 'for crate in $under_way; do kill -- "-$(cat "$folders/$crate/pid")" 2>/dev/null; done' EXIT
+trap 'exit 2' HUP INT TERM
+
+left=$(plan) proved=' ' under_way=' ' running=0 status=0
 while [ -n "$left" ] || [ "$running" -gt 0 ]; do
     later=
-    while read -r row line; do
-        [ -n "$row" ] || continue
+    while IFS= read -r item; do
+        [ -n "$item" ] || continue
+        line=${item#* }
         if [ "$running" -lt "$seats" ] && may_start "$line"; then
             prove_one "$line" </dev/null &
-            running=$((running + 1))
+            running=$((running + 1)) under_way="$under_way${line%%:*} "
         else
-            later="$later$row $line
+            later="$later$item
 "
         fi
     done <<END
 $left
 END
     left=${later%?}
-    [ "$running" -gt 0 ] || { echo "rt: crates.txt: the crates stand on each other in a circle"; exit 2; }
+    # Where none can be started, the toolchain says why.
+    [ "$running" -gt 0 ] || break
     read -r crate answer <&3
-    running=$((running - 1))
+    running=$((running - 1)) under_way="${under_way%%" $crate "*} ${under_way#*" $crate "}"
     sed '/^rt: ok, /d' "$folders/$crate/said"
     if [ "$answer" = 0 ]; then proved="$proved$crate "; else status=1 left=; fi
 done

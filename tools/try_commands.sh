@@ -1,6 +1,6 @@
 #!/bin/sh
 # Tries the commands of bin/: what they write, what they say and how they end, on good input, on bad input and where reads and writes fail.
-# Writes a line for each case that differs, and how many were tried. It needs the programs built, or builds them; python3 for one case.
+# Writes a line for each case that differs, and how many were tried. It needs the programs built, or builds them; python3 for two cases.
 top=$(cd "$(dirname -- "$0")/.." && pwd -P) || exit 2
 work=$(mktemp -d) || exit 2
 trap 'rm -rf "$work"' EXIT
@@ -25,7 +25,8 @@ bin=$top/bin e=$top/examples
 export bin e
 listing='book 0 at 27 phrases 1\nhit 17 phrase 7 right 1\nend 17 hits 1 steps 1\n'
 opened='book 0 at 27 phrases 1\n'
-"$bin/scan" >/dev/null && printf '' | "$bin/list" >/dev/null 2>&1
+"$bin/scan" >/dev/null || exit 2
+"$bin/list" </dev/null >/dev/null 2>&1
 mkdir folder
 { cat "$e/print.book"; head -c 65508 /dev/zero; } >longest.book
 { cat "$e/print.book"; head -c 65509 /dev/zero; } >long.book
@@ -54,7 +55,7 @@ try 'standard input closed, list' 2 '' 'the book could not be read; nothing is l
 try 'standard output closed' 2 '' 'scan: standard output is closed' '"$bin/scan" >&-'
 try 'standard output full' 2 '' 'the listing could not be written further; it is not complete' '"$bin/scan" >/dev/full'
 try 'nobody reads' 0 "$opened" '' '"$bin/scan" "$e/office.book" "$e/long.letter" >/dev/null && "$bin/scan" | head -n 1'
-try 'one argument' 2 '' 'a program that can'"'"'t be built' '"$bin/scan" "$e/print.book" 2>&1 >/dev/null | sed "\$s/^ *//" >&2; exit 2'
+try 'one argument' 2 '' 'a program that can'"'"'t be built' '"$bin/scan" "$e/print.book"'
 try 'an argument for list' 2 '' '(see README.md)' '"$bin/list" x <input'
 try 'empty input' 1 'book 2 at 0\n' 'the book is refused, and the letter was not read' '"$bin/list" </dev/null'
 try 'from another folder, by a link' 0 "$listing" '' 'ln -s "$bin/scan" s && cd / && "$OLDPWD/s"'
