@@ -2,7 +2,7 @@
 -- A quiet byte changes nothing but state, place and counts, so gliding takes the bytes that are taken one by one.
 -- Assumes nothing.
 use mathlib.Core.Path.{_≡_, refl, sym, ap, ap₂, _∙_}
-use mathlib.Core.Bool.{Bool, true, false, cond}
+use mathlib.Core.Bool.{Bool, true, false, So, cond}
 use mathlib.Core.List.{List, [], _∷_}
 use Prim.Native.Nat.{ℕ, zero, suc, _+_, _-_, _≤_, _<_}
 use native.Mathlib.Numerals.{add-one}
@@ -11,10 +11,11 @@ use lib.ListN.{length, getD, drop}
 use lib.Seq.{drop-cons, drop-length}
 use borrow.Author.Tests.{lt-ltb, le-ltb}
 use Rattle.tables.specs.Reads.{phraseCountIn}
-use Rattle.gliding.specs.Glide.{Gone, further, Glide, oneOn, glideIn}
-use Rattle.gliding.proofs.Quiet.{quiet-nothing}
+use Rattle.gliding.specs.Glide.{Gone, further, quietAt, Glide, oneOn, glideIn}
+use Rattle.gliding.proofs.Quiet.{quiet-is}
 use Rattle.gliding.proofs.Turns.{goes-quiet, on-goes, glide-stops, glide-on}
 use Rattle.window.specs.Happened.{Here, happened}
+use Rattle.window.proofs.Happened.{happened-quiet}
 use Rattle.feeding.specs.Taken.{Run, byteTaken, freeAfter, partTaken, toCome}
 
 -- The way of a run, and the run that went so far.
@@ -27,6 +28,12 @@ wentTo gone here = record { state = gone .state; place = gone .place; taken = go
 -- The run once what happens at its place is done.
 abbrev pub done : List ℕ → Run → Run
 done t run = wentTo (goneOf run) (happened t (run .state) (run .place) (run .here))
+
+-- What happens at a quiet place changes nothing: no report, and no byte of the memory.
+quiet-nothing : (t : List ℕ) (state place : ℕ) (here : Here) → So (quietAt t (here .memory) state place) → happened t state place here ≡ here
+quiet-nothing t state place here h =
+    let q = quiet-is t (here .memory) state place h in
+    happened-quiet t state place here (q .1) (q .0)
 
 module _ (t : List ℕ) (room : ℕ) (part : List ℕ) where
   -- What a run comes to: where something is still to be done at its place, that is done, and then the rest of the part is taken.

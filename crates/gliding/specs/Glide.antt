@@ -7,8 +7,8 @@ use lib.ListN.{length}
 use mathlib.Core.Path.{_≡_}
 use Rattle.tables.specs.Layout.{roomForStates}
 use Rattle.tables.specs.Reads.{Whole, stateCountIn, denseIn, gainIn, endingIn}
+use Rattle.running.specs.Waiting.{slotOf}
 use Rattle.running.specs.Reads.{WholeRunning, flagIn}
-use Rattle.window.specs.Waiting.{slotOf}
 use Rattle.seeking.specs.Quick.{quickIn}
 use Rattle.gliding.specs.declared.Way.{Way}
 

@@ -30,7 +30,7 @@ pub fn is_quiet(t: &[u8], m: &[u8], state: State, place: Place) -> bool
     if tables::has_ending(t, state) {
         return false;
     }
-    m[FLAG + window::slot_of(place)] == 0
+    m[FLAG + running::slot_of(place)] == 0
 }
 
 // The same as the way, with the index of the state: the loop keeps it in one register from byte to byte.

@@ -3,13 +3,13 @@
 use mathlib.Core.Path.{_≡_}
 use mathlib.Core.Bool.{Bool, false, not, cond, _&&_, _||_}
 use mathlib.Core.List.{List, [], _∷_}
-use Prim.Native.Nat.{ℕ, zero, suc, _%_, _<_}
+use Prim.Native.Nat.{ℕ, zero, suc, _<_}
 use lib.Dec.{leb, ltb, eqb}
 use Rattle.meaning.specs.Books.{Phrase, Book}
 use Rattle.meaning.specs.Reports.{Report, reportOf}
 use Rattle.tables.specs.Spots.{none-left, spotAt, spotCount}
 use Rattle.tables.specs.Layout.{upTo, roomForPieces}
-use Rattle.running.specs.Waiting.{slots, closesAt, slotFor, waits, someBelow}
+use Rattle.running.specs.Waiting.{slots, slotOf, closesAt, slotFor, waits, someBelow}
 use Rattle.running.specs.Layout.{closingIn}
 
 -- The two functions are the book's after the bytes x, for every slot and for every piece there is room for.
@@ -21,11 +21,11 @@ module _ (book : Book) (place : ℕ) (closing : ℕ → ℕ) (waiting : ℕ → 
   -- The slot of the place is opened: a piece that waits there has a window now, and its closing place replaces the old one.
   unfoldable pub closingAfter : ℕ → ℕ
   unfolding closesAt
-  closingAfter p = cond (waiting (place % slots) p) (closesAt (spotAt book p .piece .gap) place) (closing p)
+  closingAfter p = cond (waiting (slotOf place) p) (closesAt (spotAt book p .piece .gap) place) (closing p)
 
   -- The slot is emptied before the pieces that end at the place are looked at, so that a delay of 256 fits.
   unfoldable pub waitingOn : ℕ → ℕ → Bool
-  waitingOn q p = cond (eqb q (place % slots)) false (waiting q p)
+  waitingOn q p = cond (eqb q (slotOf place)) false (waiting q p)
 
   -- Given whose keyword ends at the place.
   module _ (ending : ℕ → Bool) where

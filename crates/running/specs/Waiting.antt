@@ -48,10 +48,14 @@ opensFrom spot x place =
 abbrev pub slots : ℕ
 slots = 256
 
+-- The slot of a place.
+abbrev pub slotOf : ℕ → ℕ
+slotOf place = place % slots
+
 -- The slot in which a piece waits from an end of the pieces before it: that of the place at which its window opens.
 unfoldable pub slotFor : Piece → ℕ → ℕ
 unfolding opensAt
-slotFor piece previous = opensAt piece previous % slots
+slotFor piece previous = slotOf (opensAt piece previous)
 
 -- The one place in the next 256 after i that has its slot at q.
 unfoldable pub placeIn : ℕ → ℕ → ℕ

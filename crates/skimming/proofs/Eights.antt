@@ -10,8 +10,8 @@ use lib.ListN.{getD}
 use borrow.Author.Tests.{lt-leb}
 use Rattle.lent.specs.Numbers.{numberAt}
 use Rattle.tables.specs.Reads.{infoIn, gainIn, endingIn}
+use Rattle.running.specs.Waiting.{slotOf}
 use Rattle.running.specs.Reads.{flagIn}
-use Rattle.window.specs.Waiting.{slotOf}
 use Rattle.gliding.specs.Glide.{quietAt}
 use Rattle.skimming.specs.Look.{lookIn, lookFrom}
 use Rattle.skimming.specs.Infos.{infosIn, InfosReady}

@@ -92,7 +92,7 @@ fn by_eights(t: &[u8], m: &[u8], ahead: &[u16], from: Looking) -> Looking
 {
     let mut looking = from;
     while EIGHT <= looking.left {
-        let slot = window::slot_of(looking.place.next());
+        let slot = running::slot_of(looking.place.next());
         if LAST_SLOT < slot {
             return looking;
         }

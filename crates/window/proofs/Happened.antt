@@ -11,8 +11,8 @@ use Rattle.marks.specs.Marked.{noMarks}
 use Rattle.marks.specs.Reported.{Reports, reported}
 use Rattle.marks.specs.declared.Marks.{Marks}
 use Rattle.marks.proofs.Reported.{reported-few, reported-long, reported-none}
+use Rattle.running.specs.Waiting.{slotOf}
 use Rattle.running.specs.Reads.{flagIn}
-use Rattle.window.specs.Waiting.{slotOf}
 use Rattle.window.specs.Opening.{slotOpened}
 use Rattle.window.specs.Ending.{mostLooked, piecesIn, Ended, piecesEnded}
 use Rattle.window.specs.Happened.{Here, endedAt, happened}

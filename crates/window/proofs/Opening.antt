@@ -21,10 +21,9 @@ use Rattle.bits.proofs.Lowest.{first-same}
 use Rattle.counters.specs.declared.Place.{Place}
 use Rattle.tables.specs.Layout.{roomForPieces}
 use Rattle.tables.specs.Reads.{spanIn}
-use Rattle.running.specs.Waiting.{never}
+use Rattle.running.specs.Waiting.{never, slotOf}
 use Rattle.running.specs.Layout.{flagAt, closingAt, ringAt, slotLength}
 use Rattle.running.specs.Reads.{flagIn, closingPlaceIn, slotAt, bitAt, waitsIn}
-use Rattle.window.specs.Waiting.{slotOf}
 use Rattle.window.specs.Closing.{renewedTo}
 use Rattle.window.specs.declared.closing.Window.{Window}
 use Rattle.window.specs.Opening.{openSpan, closesAfter, replacedBy, withClosing, windowOpened, windowsOpened, slotEmptied, slotOpened}

@@ -9,10 +9,9 @@ use Rattle.lent.specs.Numbers.{withNumber}
 use Rattle.lent.specs.Zeros.{withZeros}
 use Rattle.tables.specs.Layout.{roomForPieces}
 use Rattle.tables.specs.Reads.{spanIn}
-use Rattle.running.specs.Waiting.{never}
+use Rattle.running.specs.Waiting.{never, slotOf}
 use Rattle.running.specs.Layout.{flagAt, closingAt, slotLength}
 use Rattle.running.specs.Reads.{flagIn, closingPlaceIn, slotAt, waitsIn}
-use Rattle.window.specs.Waiting.{slotOf}
 
 -- The span of an open gap: its window never closes.
 abbrev pub openSpan : ℕ

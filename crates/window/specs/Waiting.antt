@@ -4,13 +4,9 @@ use Prim.Native.Nat.{ℕ, _+_, _%_}
 use lib.ListN.{getD, set}
 use Rattle.bits.specs.Bits.{setBit}
 use Rattle.tables.specs.Reads.{delayIn}
-use Rattle.running.specs.Waiting.{slots}
+use Rattle.running.specs.Waiting.{slotOf}
 use Rattle.running.specs.Layout.{flagAt}
 use Rattle.running.specs.Reads.{bitAt}
-
--- The slot of a place.
-abbrev pub slotOf : ℕ → ℕ
-slotOf place = place % slots
 
 -- The flag of a slot that has a bit.
 abbrev pub flagged : ℕ

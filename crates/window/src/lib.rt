@@ -21,7 +21,6 @@ pub use closing::Window;
 pub use closing::renew;
 pub use ends::pieces_end;
 pub use opens::open_slot;
-pub use waits::slot_of;
 pub use waits::wait_from;
 
 // What happens at a place once the state is known: the windows of the place open, the pieces of the state end, and the phrases

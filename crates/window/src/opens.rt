@@ -11,7 +11,6 @@ ghost use Rattle.running.specs.Reads.{WholeRunning, closingPlaceIn, waitsIn};
 ghost use Rattle.window.specs.Opening.{closesAfter, withClosing, windowOpened, windowsOpened, slotEmptied, slotOpened};
 use crate::closing::Window;
 use crate::closing::renew_lent;
-use crate::waits::slot_of;
 use counters::Place;
 use running::layout::CLOSING;
 use running::layout::CLOSING_LENGTH;
@@ -121,7 +120,7 @@ pub fn open_slot(t: &[u8], m: &mut [u8], place: Place)
     requires { ⌜ (Whole (now t)) × (WholeRunning (now m)) × (InLetter (place .0)) ⌝ }
     ensures { λ _. ⌜ now (m .exit) ≡ slotOpened (now (t .entry)) (now (m .entry)) (place .0) ⌝ }
 {
-    let slot = slot_of(place);
+    let slot = running::slot_of(place);
     if m[FLAG + slot] == 0 {
         return;
     }

@@ -4,7 +4,7 @@ use mathlib.Core.Path.{_≡_, refl, ap, _∙_}
 use mathlib.Core.Bool.{false}
 use native.Mathlib.Omega.{arith}
 use borrow.Author.Needs.{needs}
-use Rattle.window.specs.Waiting.{slotOf}
+use Rattle.running.specs.Waiting.{slotOf}
 use Rattle.skimming.specs.Look.{lookFrom}
 use Rattle.skimming.specs.Ready.{lookOf, LookKept}
 use Rattle.skimming.proofs.Looks.{kept-still, kept-on, kept-further, ready-on}
