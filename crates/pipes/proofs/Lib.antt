@@ -1,2 +1,3 @@
 pub mod Within
 mod Taken
+mod Ended

@@ -1,17 +1,51 @@
--- A part that lies in a buffer lies in a larger one too, what is offered of it lies there, and after a turn it lies where it lay: by cases of
--- whether the listing goes on.
+-- What the next bytes of a letter are lies in the buffer, and after a turn they lie where they lay: by cases of whether the listing goes on.
 -- Assumes nothing.
-use mathlib.Core.Path.{_≡_, subst}
-use Prim.Native.Nat.{ℕ, _≤_}
+use mathlib.Core.Path.{_≡_, refl, sym, subst}
+use mathlib.Core.Bool.{Bool, true, false}
+use mathlib.Core.List.{List}
+use mathlib.Core.Logic.{_⊎_, ⊎-elim}
+use Prim.Native.Nat.{ℕ, _≤_, _<_}
 use native.Mathlib.Omega.{arith}
+use lib.Dec.{ltb}
+use lib.ListN.{length}
+use borrow.Author.Tests.{ltb-true}
+use Rattle.lines.specs.declared.answers.Opened.{Opened}
+use Rattle.lines.specs.declared.answers.Opened.the-variants as opened
+use Rattle.pipes.specs.declared.totals.Totals.{Totals}
 use Rattle.pipes.specs.declared.letter.Standing.{Standing}
 use Rattle.pipes.specs.declared.letter.Turn.{Turn}
 use Rattle.pipes.specs.declared.letter.Turn.the-variants as turn
-use Rattle.pipes.specs.Letter.{PartInside, Offers, TurnWithin}
+use Rattle.pipes.specs.declared.Ran.the-variants as ran
+use Rattle.pipes.specs.Letter.{OrNotWritten, Started, unread, PartInside, PartRead, NextPart, NextBytes, Next, TurnWithin}
+
+pub started-inside : (book : Opened) (more : Bool) (first : Turn) → Started book more first → PartInside first 0
+unfolding unread
+started-inside (opened.Ready end) more first = ⊎-elim (λ e. rw e (omega arith)) (λ e. rw e tt)
+started-inside (opened.Refused end) more first = ⊎-elim (λ e. rw e tt) (λ e. rw e tt)
 
 pub part-wider : (t : Turn) (size room : ℕ) → size ≤ room → PartInside t size → PartInside t room
 part-wider (turn.On standing) size room wider inside = omega arith
-part-wider (turn.Over ran) size room wider inside = tt
+part-wider (turn.Over told) size room wider inside = tt
+
+-- A listing that goes on has bytes to offer, which lie in the buffer.
+abbrev pub Offers : Turn → ℕ → Type 0
+Offers (turn.On standing) room = (standing .used < standing .size) × (standing .size ≤ room)
+Offers (turn.Over told) room = Unit {0}
+
+read-offers : (totals : Totals) (room : ℕ) (next : Turn) → PartRead totals room next → Offers next room
+read-offers totals room (turn.On standing) read = (omega (arith, read .0, read .2), read .1)
+read-offers totals room (turn.Over told) read = tt
+
+pub next-offers : (t : Turn) (part : List ℕ) (next : Turn) (after : List ℕ) → PartInside t (length part) → Next t part next after → Offers next (length part)
+next-offers (turn.Over told) part next after inside is = rw (is .0) tt
+next-offers (turn.On standing) part next after inside is = bytes (ltb (standing .used) (standing .size)) refl is
+  where
+    follows : (more : Bool) → NextPart more (standing .totals) part next after → Offers next (length part)
+    follows true read = read-offers (standing .totals) (length part) next read
+    follows false ended = ⊎-elim (λ e. rw e tt) (λ e. rw e tt) (ended .0)
+    bytes : (left : Bool) → ltb (standing .used) (standing .size) ≡ left → NextBytes left standing part next after → Offers next (length part)
+    bytes true left is = rw (is .0) (ltb-true _ _ left, inside)
+    bytes false left is = follows (standing .more) is
 
 module _ (offered : Turn) (before : Standing) (size : ℕ) (is : offered ≡ turn.On before) (offers : Offers offered size) where
   here : Offers (turn.On before) size
@@ -22,4 +56,4 @@ module _ (offered : Turn) (before : Standing) (size : ℕ) (is : offered ≡ tur
 
   pub turn-inside : (after : Turn) (room : ℕ) → size ≡ room → TurnWithin before after → PartInside after room
   turn-inside (turn.On standing) room long within = omega (arith, here .1, within .2)
-  turn-inside (turn.Over ran) room long within = tt
+  turn-inside (turn.Over told) room long within = tt

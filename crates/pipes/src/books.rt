@@ -1,7 +1,7 @@
 // A book, read to the start of a buffer.
 ghost use Prim.Native.Nat.{_≤_};
 ghost use lib.ListN.{length};
-ghost use Rattle.pipes.specs.Books.{CameWithin};
+ghost use Rattle.pipes.specs.Books.{BookOf, SizedBook, WholeBook};
 use crate::Ran;
 use crate::reading::Brought;
 use crate::reading::fill;
@@ -20,7 +20,7 @@ pub enum Came {
 // cut.
 pub fn sized_book(from: i32, book: &mut [u8]) -> Came
     requires { ⌜ 65535 ≤ length (now book) ⌝ }
-    ensures { λ r. ⌜ CameWithin r (length (now (book .exit))) ⌝ }
+    ensures { λ r. ⌜ SizedBook r ⌝ }
 {
     let mut length = [0u8; LENGTH_BYTES];
     let brought = fill(from, &mut length);
@@ -39,7 +39,7 @@ pub fn sized_book(from: i32, book: &mut [u8]) -> Came
 // The same once it is known how many bytes the book has.
 fn book_of(size: usize, from: i32, book: &mut [u8]) -> Came
     requires { ⌜ size ≤ length (now book) ⌝ }
-    ensures { λ r. ⌜ CameWithin r (length (now (book .exit))) ⌝ }
+    ensures { λ r. ⌜ BookOf size r ⌝ }
 {
     let brought = fill(from, &mut book[..size]);
     match brought {
@@ -56,7 +56,7 @@ fn book_of(size: usize, from: i32, book: &mut [u8]) -> Came
 
 // The book that a descriptor brings to its end; the letter comes from another one. A full buffer is a book that is too long.
 pub fn whole_book(from: i32, book: &mut [u8]) -> Came
-    ensures { λ r. ⌜ CameWithin r (length (now (book .exit))) ⌝ }
+    ensures { λ r. ⌜ WholeBook (length (now (book .entry))) r ⌝ }
 {
     let brought = fill(from, book);
     match brought {

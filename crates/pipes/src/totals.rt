@@ -9,17 +9,6 @@ pub struct Totals {
 }
 
 impl Totals {
-    // Before the first byte.
-    pub(crate) fn none() -> Totals
-        ensures { λ r. ⌜ (r .taken ≡ 0) × (r .hits ≡ 0) × (r .steps ≡ 0) ⌝ }
-    {
-        Totals {
-            taken: 0,
-            hits: 0,
-            steps: 0,
-        }
-    }
-
     // After one call more. A byte brings at most 128 hits, and a letter no more steps than bytes, so that no sum comes near 2^64.
     pub(crate) fn plus(self, taken: usize, hits: usize, steps: u64) -> Totals
         ensures { λ r. ⌜ (r .taken ≡ (self .taken + taken) % 2 ^ 64) × (r .hits ≡ (self .hits + hits) % 2 ^ 64) × (r .steps ≡ (self .steps + steps) % 2 ^ 64) ⌝ }

@@ -5,6 +5,9 @@ use native.Mathlib.Omega.{arith}
 use borrow.Author.Needs.{needs}
 use Rattle.pipes.proofs.books.book_of.Statement.{statement}
 use Rattle.pipes.proofs.books.book_of.Tie as tie
+use Rattle.pipes.proofs.books.book_of.Reads as reads
+use Rattle.pipes.proofs.books.book_of.Lts as lts
+use Rattle.pipes.proofs.reading.fill.Reads as fill-reads
 
 slice-relend-prefix-fill : tie.Need-slice-relend-prefix-fill
 slice-relend-prefix-fill c = search needs

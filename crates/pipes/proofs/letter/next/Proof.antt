@@ -1,28 +1,51 @@
--- A listing that is over stays so; of any other, the next bytes are asked for. Assumes nothing.
+-- A listing that is over stays so; something is read, or the end line written, only where no byte is left. Assumes nothing.
 use mathlib.Core.Path.{refl}
+use borrow.Author.Tests.{lt-ltb, le-ltb}
 use borrow.Author.Needs.{needs}
 use Rattle.pipes.proofs.letter.next.Statement.{statement}
 use Rattle.pipes.proofs.letter.next.Tie as tie
+use Rattle.pipes.proofs.letter.next.Reads as reads
+use Rattle.pipes.proofs.letter.next.Lts as lts
+use Rattle.pipes.proofs.ends.write_end.Reads as write-end-reads
+use Rattle.pipes.proofs.letter.read_part.Reads as read-part-reads
 
 enum-known-turn : tie.Need-enum-known-turn
 enum-known-turn c = search needs
 
-next-bytes-requires : tie.Need-next-bytes-requires
-next-bytes-requires c κs = (c .before .before .before .before .before .pre .0, rw (c .before .before .turn .given .1) at (c .before .before .before .before .before .pre .1))
+returns : tie.Need-returns
+returns c = rw (c .before .before .before .turn .given .1, lt-ltb _ _ (c .if1 .taken)) (refl, refl)
 
-enum-known-turn-2 : tie.Need-enum-known-turn-2
-enum-known-turn-2 c = search needs
+read-part-requires : tie.Need-read-part-requires
+read-part-requires c κs = search needs
 
 same-length : tie.Need-same-length
 same-length c = search needs
 
-returns : tie.Need-returns
-returns c = rw (c .before .before .before .before .before .turn .given .1) (c .before .before .next-bytes .ensures)
-
 returns-2 : tie.Need-returns-2
-returns-2 c = rw (c .before .turn2 .given .1) (tt, (refl, refl))
+returns-2 c = rw (c .before .before .before .before .before .before .before .before .turn .given .1, le-ltb _ _ (c .before .before .before .before .before .if1 .left), c .before .before .before .before .if2 .taken) (c .before .before .read-part .ensures)
+
+write-end-requires : tie.Need-write-end-requires
+write-end-requires c κs = search needs
+
+enum-known-turn-2 : tie.Need-enum-known-turn-2
+enum-known-turn-2 c = search needs
+
+returns-3 : tie.Need-returns-3
+returns-3 c = rw (c .before .before .before .before .before .turn .given .1, le-ltb _ _ (c .before .before .if1 .left), c .before .if2 .left) (c .write-end .ensures, refl)
+
+returns-4 : tie.Need-returns-4
+returns-4 c = rw (c .before .turn2 .given .1) (refl, refl)
 
 pub next-spec : {M : Type 1} → statement M
 next-spec =
     tie.close
-    (tie.spec enum-known-turn next-bytes-requires enum-known-turn-2 same-length returns returns-2)
+    (tie.spec
+    enum-known-turn
+    returns
+    read-part-requires
+    same-length
+    returns-2
+    write-end-requires
+    enum-known-turn-2
+    returns-3
+    returns-4)
