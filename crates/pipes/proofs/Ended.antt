@@ -1,5 +1,4 @@
--- What was read of a letter is a part, or ended it, and a book of a length that two bytes say is sized: by cases.
--- Assumes nothing.
+-- What was read of a letter is a part, or ended it. Assumes nothing.
 use mathlib.Core.Path.{_≡_, refl, sym}
 use mathlib.Core.Bool.{true, false}
 use mathlib.Core.Logic.{⊎-elim, inl, inr}
@@ -9,11 +8,8 @@ use borrow.Author.Tests.{eq-eqb, ne-eqb}
 use Rattle.pipes.specs.declared.totals.Totals.{Totals}
 use Rattle.pipes.specs.declared.letter.Turn.{Turn}
 use Rattle.pipes.specs.declared.letter.Turn.the-variants as turn
-use Rattle.pipes.specs.declared.books.Came.{Came}
-use Rattle.pipes.specs.declared.books.Came.the-variants as came
 use Rattle.pipes.specs.declared.Ran.the-variants as ran
 use Rattle.pipes.specs.Letter.{OrNotWritten, PartRead}
-use Rattle.pipes.specs.Books.{BookOf, SizedBook}
 
 module _ (totals : Totals) where
   pub full-read : (size room : ℕ) → size ≡ room → 0 < room → PartRead totals room (turn.On record { size = size; used = 0; more = true; totals = totals })
@@ -24,8 +20,3 @@ module _ (totals : Totals) where
 
   pub ended-read : (room : ℕ) (next : Turn) → OrNotWritten (turn.Over ran.Listed) next → PartRead totals room next
   ended-read room next = ⊎-elim (λ e. rw e (inl refl)) (λ e. rw e (inr (inl refl)))
-
-pub book-sized : (length : ℕ) (book : Came) → length < 65536 → BookOf length book → SizedBook book
-book-sized length (came.Book size true) two of = omega arith
-book-sized length (came.Book size false) two of = omega arith
-book-sized length (came.Not told) two of = of

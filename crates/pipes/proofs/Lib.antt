@@ -1,3 +1,4 @@
 pub mod Within
-mod Taken
+pub mod Taken
+pub mod Came
 mod Ended

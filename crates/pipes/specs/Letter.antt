@@ -11,6 +11,7 @@ use Rattle.lines.specs.declared.answers.Opened.{Opened}
 use Rattle.lines.specs.declared.answers.Opened.the-variants as opened
 use Rattle.lines.specs.declared.answers.Listed.{Listed}
 use Rattle.lines.specs.declared.answers.Listed.the-variants as listed
+use Rattle.pipes.specs.declared.Ran.{Ran}
 use Rattle.pipes.specs.declared.Ran.the-variants as ran
 use Rattle.pipes.specs.declared.totals.Totals.{Totals}
 use Rattle.pipes.specs.declared.letter.Standing.{Standing}
@@ -35,11 +36,14 @@ abbrev pub PartInside : Turn → ℕ → Type 0
 PartInside (turn.On standing) room = standing .size ≤ room
 PartInside (turn.Over told) room = Unit {0}
 
--- A part that was read has a byte or more, none of them used, and input may follow it only where it fills the buffer; where none came the letter ends,
--- and a failed read is no end.
+-- Where no bytes come, the letter is listed to its end, unless a write or a read failed.
+abbrev pub ReadEnd : Ran → Type 0
+ReadEnd told = (told ≡ ran.Listed) ⊎ ((told ≡ ran.NotWritten) ⊎ (told ≡ ran.LetterNotRead))
+
+-- A part that was read has a byte or more, none of them used, and input may follow it exactly where it fills the buffer.
 abbrev pub PartRead : Totals → ℕ → Turn → Type 0
 PartRead totals room (turn.On standing) = (0 < standing .size) × (standing .size ≤ room) × (standing .used ≡ 0) × (standing .more ≡ eqb (standing .size) room) × (standing .totals ≡ totals)
-PartRead totals room (turn.Over told) = (told ≡ ran.Listed) ⊎ ((told ≡ ran.NotWritten) ⊎ (told ≡ ran.LetterNotRead))
+PartRead totals room (turn.Over told) = ReadEnd told
 
 -- Where all bytes of a part are used, the next part is read if input may follow; otherwise the letter ends.
 abbrev pub NextPart : Bool → Totals → List ℕ → Turn → List ℕ → Type 0
@@ -75,7 +79,11 @@ AfterCall (listed.Took taken hits steps end) standing next = OrNotWritten (after
 AfterCall listed.TooLong standing next = OrNotWritten (turn.Over ran.LetterRefused) next
 AfterCall listed.NotTaken standing next = next ≡ turn.Over ran.NotTaken
 
--- A turn that is not the last uses some of the bytes that are left, and no more than these.
+-- A call ends the listing where the letter or the tables are refused, or a write failed; so the letter is not listed to its end.
+abbrev pub CallEnd : Ran → Type 0
+CallEnd told = (told ≡ ran.LetterRefused) ⊎ ((told ≡ ran.NotWritten) ⊎ (told ≡ ran.NotTaken))
+
+-- A call after which the listing goes on uses some of the bytes that are left, and no more than these.
 abbrev pub TurnWithin : Standing → Turn → Type 0
 TurnWithin before (turn.On standing) = (before .used < standing .used) × (standing .used ≤ standing .size) × (standing .size ≡ before .size)
-TurnWithin before (turn.Over told) = Unit {0}
+TurnWithin before (turn.Over told) = CallEnd told

@@ -1,5 +1,5 @@
 -- Two bytes say at most 65,535. Assumes nothing.
-use Rattle.pipes.proofs.Ended.{book-sized}
+use Rattle.pipes.proofs.Came.{book-sized}
 use borrow.Author.Needs.{needs}
 use Rattle.pipes.proofs.books.sized_book.Statement.{statement}
 use Rattle.pipes.proofs.books.sized_book.Tie as tie
