@@ -36,24 +36,27 @@ read-offers : (totals : Totals) (room : ℕ) (next : Turn) → PartRead totals r
 read-offers totals room (turn.On standing) read = (omega (arith, read .0, read .2), read .1)
 read-offers totals room (turn.Over told) read = tt
 
-pub next-offers : (t : Turn) (part : List ℕ) (next : Turn) (after : List ℕ) → PartInside t (length part) → Next t part next after → Offers next (length part)
-next-offers (turn.Over told) part next after inside is = rw (is .0) tt
-next-offers (turn.On standing) part next after inside is = bytes (ltb (standing .used) (standing .size)) refl is
-  where
-    follows : (more : Bool) → NextPart more (standing .totals) part next after → Offers next (length part)
-    follows true read = read-offers (standing .totals) (length part) next read
-    follows false ended = ⊎-elim (λ e. rw e tt) (λ e. rw e tt) (ended .0)
-    bytes : (left : Bool) → ltb (standing .used) (standing .size) ≡ left → NextBytes left standing part next after → Offers next (length part)
-    bytes true left is = rw (is .0) (ltb-true _ _ left, inside)
-    bytes false left is = follows (standing .more) is
+module _ (standing : Standing) (part : List ℕ) (next : Turn) (after : List ℕ) (inside : standing .size ≤ length part) where
+  part-offers : (more : Bool) → NextPart more (standing .totals) part next after → Offers next (length part)
+  part-offers true read = read-offers (standing .totals) (length part) next read
+  part-offers false ended = ⊎-elim (λ e. rw e tt) (λ e. rw e tt) (ended .0)
 
-module _ (offered : Turn) (before : Standing) (size : ℕ) (is : offered ≡ turn.On before) (offers : Offers offered size) where
-  here : Offers (turn.On before) size
-  here = subst (λ (t : Turn). Offers t size) is offers
+  bytes-offers : (left : Bool) → ltb (standing .used) (standing .size) ≡ left → NextBytes left standing part next after → Offers next (length part)
+  bytes-offers true left is = rw (is .0) (ltb-true _ _ left, inside)
+  bytes-offers false left is = part-offers (standing .more) is
 
-  pub offered-inside : (room : ℕ) → room ≡ size → (before .used ≤ before .size) × (before .size ≤ room)
-  offered-inside room long = (omega (arith, here .0), omega (arith, here .1))
+pub next-offers : (t : Turn) (part : List ℕ) (next : Turn) (after : List ℕ) (room : ℕ) → length part ≡ room → PartInside t room → Next t part next after → Offers next room
+next-offers (turn.On standing) part next after room long inside is =
+    subst (Offers next) long (bytes-offers standing part next after (omega arith) (ltb (standing .used) (standing .size)) refl is)
+next-offers (turn.Over told) part next after room long inside is = rw (is .0) tt
 
-  pub turn-inside : (after : Turn) (room : ℕ) → size ≡ room → TurnWithin before after → PartInside after room
-  turn-inside (turn.On standing) room long within = omega (arith, here .1, within .2)
-  turn-inside (turn.Over told) room long within = tt
+module _ (offered : Turn) (before : Standing) (room : ℕ) (is : offered ≡ turn.On before) (offers : Offers offered room) where
+  here : Offers (turn.On before) room
+  here = subst (λ (t : Turn). Offers t room) is offers
+
+  pub offered-inside : (long : ℕ) → long ≡ room → (before .used ≤ before .size) × (before .size ≤ long)
+  offered-inside long same = (omega (arith, here .0), omega (arith, here .1))
+
+  pub turn-inside : (after : Turn) → TurnWithin before after → PartInside after room
+  turn-inside (turn.On standing) within = omega (arith, here .1, within .2)
+  turn-inside (turn.Over told) within = tt

@@ -1,6 +1,7 @@
 -- Two bytes say no more than the buffer holds, and reading keeps its length. Assumes nothing.
-use mathlib.Core.Path.{sym}
+use mathlib.Core.Path.{sym, _∙_}
 use native.Mathlib.Nat.{le-of-eq}
+use Rattle.pipes.proofs.Came.{sized-within}
 use Rattle.stream.proofs.Arrays.{counted}
 use Rattle.stream.proofs.list.Statement.{statement}
 use Rattle.stream.proofs.list.Tie as tie
@@ -15,7 +16,9 @@ slice-aggregate-list-came : tie.Need-slice-aggregate-list-came
 slice-aggregate-list-came c = sym (c .before .before .sized-book .kept .1 .0)
 
 list-came-requires : tie.Need-list-came-requires
-list-came-requires c κs = c .before .before .sized-book .ensures
+list-came-requires c κs =
+    let came = c .before .before .sized-book in
+    sized-within (came .result) _ (le-of-eq (counted _ ∙ sym (came .kept .1 .0))) (came .ensures)
 
 returns : tie.Need-returns
 returns c = tt

@@ -1,7 +1,12 @@
 -- Opening the book keeps the lengths of what is lent, and its line ends inside the buffer. Assumes nothing.
 use mathlib.Core.Path.{sym, subst}
 use Prim.Native.Nat.{ℕ, _≤_}
+use native.Mathlib.Nat.{le-of-eq}
 use Rattle.lines.specs.Answers.{openedEnd}
+use Rattle.tables.specs.Layout.{tablesSize}
+use Rattle.running.specs.Layout.{runningSize}
+use Rattle.pipes.proofs.Within.{started-inside}
+use Rattle.stream.proofs.Ends.{listed-as}
 use Rattle.stream.proofs.Arrays.{counted}
 use Rattle.stream.proofs.list_with.Statement.{statement}
 use Rattle.stream.proofs.list_with.Tie as tie
@@ -33,10 +38,17 @@ slice-aggregate-list-letter-2 : tie.Need-slice-aggregate-list-letter-2
 slice-aggregate-list-letter-2 c = sym (c .before .before .before .before .before .before .before .open-book .kept .1 .1 .0)
 
 list-letter-requires : tie.Need-list-letter-requires
-list-letter-requires c κs = c .before .before .start .ensures
+list-letter-requires c κs =
+    let first = c .before .before .start in
+    let opened = c .before .before .before .before .before .before .before .open-book .result in
+    started-inside opened _ (first .result) (first .ensures)
 
 returns : tie.Need-returns
-returns c = tt
+unfolding tablesSize runningSize
+returns c =
+    let call = c .before .before .before .before .before .before .before .before .before .open-book in
+    let first = c .before .before .before .before .start in
+    listed-as _ _ _ _ (first .result) _ (call .ensures .0 .means (le-of-eq (counted _)) (le-of-eq (counted _))) (first .ensures) (c .before .list-letter .ensures)
 
 pub list-with-spec : {M : Type 1} → statement M
 list-with-spec =

@@ -1,0 +1,23 @@
+-- Which ends of a listing can be told. Assumes nothing: these are definitions.
+use mathlib.Core.Path.{_≡_}
+use mathlib.Core.Logic.{_⊎_}
+use Rattle.format.specs.Judged.{Judgement, accepted, refused}
+use Rattle.pipes.specs.declared.Ran.{Ran}
+use Rattle.pipes.specs.declared.Ran.the-variants as ran
+use Rattle.pipes.specs.declared.letter.Turn.{Turn}
+use Rattle.pipes.specs.declared.letter.Turn.the-variants as turn
+use Rattle.pipes.specs.Letter.{ReadEnd, CallEnd}
+
+-- A letter ends where no bytes come, or by a call; no end of a book is told of it.
+abbrev pub LetterEnd : Ran → Type 0
+LetterEnd told = ReadEnd told ⊎ CallEnd told
+
+-- A listing that is over ends as it did, and any other as its letter.
+abbrev pub EndFrom : Turn → Ran → Type 0
+EndFrom (turn.On standing) told = LetterEnd told
+EndFrom (turn.Over ended) told = told ≡ ended
+
+-- A listing ends as its letter where document 01 accepts the book; a refused book is told, unless its line could not be written.
+unfoldable pub ListedAs : Judgement → Ran → Type 0
+ListedAs (accepted book offset) told = LetterEnd told
+ListedAs (refused why offset) told = (told ≡ ran.BookRefused) ⊎ (told ≡ ran.NotWritten)
