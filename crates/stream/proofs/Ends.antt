@@ -7,7 +7,6 @@ use Prim.Native.Nat.{ℕ, _<_}
 use native.Mathlib.Omega.{arith}
 use lib.Dec.{ltb}
 use lib.ListN.{length}
-use Rattle.format.specs.Judged.{Judgement, accepted, refused}
 use Rattle.lines.specs.declared.answers.Opened.{Opened}
 use Rattle.lines.specs.declared.answers.Opened.the-variants as opened
 use Rattle.pipes.specs.declared.Ran.{Ran}
@@ -17,9 +16,7 @@ use Rattle.pipes.specs.declared.letter.Standing.{Standing}
 use Rattle.pipes.specs.declared.letter.Turn.{Turn}
 use Rattle.pipes.specs.declared.letter.Turn.the-variants as turn
 use Rattle.pipes.specs.Letter.{OrNotWritten, Started, PartRead, NextPart, NextBytes, Next, TurnWithin}
-use Rattle.parts.specs.Exact.{OpenEnd}
-use Rattle.parts.specs.Meant.{OpensAs}
-use Rattle.stream.specs.Ends.{LetterEnd, EndFrom, ListedAs}
+use Rattle.stream.specs.Ends.{LetterEnd, EndFrom, ListingEnd}
 
 -- After so many turns: a listing that was over at first has had none, and any other is over only by an end of its letter.
 abbrev pub Reached : Turn → ℕ → Turn → Type 0
@@ -74,15 +71,12 @@ pub end-late : (first : Turn) (turns : ℕ) (now : Turn) → Reached first turns
 end-late (turn.On standing) turns now reached late = inr (inr (inr refl))
 end-late (turn.Over ended) turns now reached late = absurd (omega (arith, reached .0))
 
--- A book that is ready, or refused, is listed as its judgement says.
-pub listed-as : (judgement : Judgement) (out : List ℕ) (end : OpenEnd) (more : Bool) (first : Turn) (told : Ran)
-    → OpensAs judgement out end → Started (end .answer) more first → EndFrom first told → ListedAs judgement told
-unfolding OpensAs ListedAs
-listed-as (accepted book offset) out end more first told opens started from = ⊎-elim
+pub listing-end : (book : Opened) (more : Bool) (first : Turn) (told : Ran) → Started book more first → EndFrom first told → ListingEnd told
+listing-end (opened.Ready end) more first told started from = inl (⊎-elim
     (λ e. subst (λ (t : Turn). EndFrom t told) e from)
     (λ e. inl (inr (inl (subst (λ (t : Turn). EndFrom t told) e from))))
-    (subst (λ (o : Opened). Started o more first) (opens .ready) started)
-listed-as (refused why offset) out end more first told opens started from = ⊎-elim
-    (λ e. inl (subst (λ (t : Turn). EndFrom t told) e from))
+    started)
+listing-end (opened.Refused end) more first told started from = ⊎-elim
     (λ e. inr (subst (λ (t : Turn). EndFrom t told) e from))
-    (subst (λ (o : Opened). Started o more first) (opens .not-ready) started)
+    (λ e. inl (inl (inr (inl (subst (λ (t : Turn). EndFrom t told) e from)))))
+    started

@@ -1,7 +1,6 @@
 -- Which ends of a listing can be told. Assumes nothing: these are definitions.
 use mathlib.Core.Path.{_≡_}
 use mathlib.Core.Logic.{_⊎_}
-use Rattle.format.specs.Judged.{Judgement, accepted, refused}
 use Rattle.pipes.specs.declared.Ran.{Ran}
 use Rattle.pipes.specs.declared.Ran.the-variants as ran
 use Rattle.pipes.specs.declared.letter.Turn.{Turn}
@@ -17,7 +16,6 @@ abbrev pub EndFrom : Turn → Ran → Type 0
 EndFrom (turn.On standing) told = LetterEnd told
 EndFrom (turn.Over ended) told = told ≡ ended
 
--- A listing ends as its letter where document 01 accepts the book; a refused book is told, unless its line could not be written.
-unfoldable pub ListedAs : Judgement → Ran → Type 0
-ListedAs (accepted book offset) told = LetterEnd told
-ListedAs (refused why offset) told = (told ≡ ran.BookRefused) ⊎ (told ≡ ran.NotWritten)
+-- The end of a listing whose book came: that of its letter, or that the book is refused.
+abbrev pub ListingEnd : Ran → Type 0
+ListingEnd told = LetterEnd told ⊎ (told ≡ ran.BookRefused)

@@ -1,9 +1,8 @@
 // The listing over descriptors: a book and a letter are read, and the lines are written as they come, in fixed memory. Everything that
 // is decided, crate `parts` decides, on slices; crate `pipes` moves the bytes; here the two take turns.
 ghost use lib.ListN.{length};
-ghost use Rattle.format.specs.Judged.{judged};
 ghost use Rattle.pipes.specs.Books.{CameWithin};
-ghost use Rattle.stream.specs.Ends.{ListedAs};
+ghost use Rattle.stream.specs.Ends.{ListingEnd};
 use letter::list_letter;
 use listing::LONGEST_LINE;
 use pipes::Came;
@@ -48,7 +47,7 @@ fn list_came(came: Came, book: &[u8], from: i32, to: i32, told: i32)
 
 // Opens the book and lists the letter. Where no input follows the book, the letter is empty, and nothing more is read.
 fn list_with(book: &[u8], more: bool, from: i32, to: i32) -> Ran
-    ensures { λ r. ⌜ ListedAs (judged (now (book .entry))) r ⌝ }
+    ensures { λ r. ⌜ ListingEnd r ⌝ }
 {
     let mut tables = [0u8; TABLES];
     let mut running = [0u8; RUNNING];

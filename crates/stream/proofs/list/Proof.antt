@@ -1,8 +1,9 @@
 -- Two bytes say no more than the buffer holds, and reading keeps its length. Assumes nothing.
-use mathlib.Core.Path.{sym, _∙_}
+use mathlib.Core.Path.{sym}
 use native.Mathlib.Nat.{le-of-eq}
+use lib.ListN.{length}
 use Rattle.pipes.proofs.Came.{sized-within}
-use Rattle.stream.proofs.Arrays.{counted}
+use Rattle.stream.proofs.Arrays.{counted, filled}
 use Rattle.stream.proofs.list.Statement.{statement}
 use Rattle.stream.proofs.list.Tie as tie
 
@@ -18,7 +19,7 @@ slice-aggregate-list-came c = sym (c .before .before .sized-book .kept .1 .0)
 list-came-requires : tie.Need-list-came-requires
 list-came-requires c κs =
     let came = c .before .before .sized-book in
-    sized-within (came .result) _ (le-of-eq (counted _ ∙ sym (came .kept .1 .0))) (came .ensures)
+    sized-within (came .result) (length (came .last .1 .0)) (filled 65535 (length (came .last .1 .0)) (came .kept .1 .0)) (came .ensures)
 
 returns : tie.Need-returns
 returns c = tt

@@ -1,12 +1,9 @@
 -- Opening the book keeps the lengths of what is lent, and its line ends inside the buffer. Assumes nothing.
 use mathlib.Core.Path.{sym, subst}
 use Prim.Native.Nat.{ℕ, _≤_}
-use native.Mathlib.Nat.{le-of-eq}
 use Rattle.lines.specs.Answers.{openedEnd}
-use Rattle.tables.specs.Layout.{tablesSize}
-use Rattle.running.specs.Layout.{runningSize}
 use Rattle.pipes.proofs.Within.{started-inside}
-use Rattle.stream.proofs.Ends.{listed-as}
+use Rattle.stream.proofs.Ends.{listing-end}
 use Rattle.stream.proofs.Arrays.{counted}
 use Rattle.stream.proofs.list_with.Statement.{statement}
 use Rattle.stream.proofs.list_with.Tie as tie
@@ -44,11 +41,10 @@ list-letter-requires c κs =
     started-inside opened _ (first .result) (first .ensures)
 
 returns : tie.Need-returns
-unfolding tablesSize runningSize
 returns c =
     let call = c .before .before .before .before .before .before .before .before .before .open-book in
     let first = c .before .before .before .before .start in
-    listed-as _ _ _ _ (first .result) _ (call .ensures .0 .means (le-of-eq (counted _)) (le-of-eq (counted _))) (first .ensures) (c .before .list-letter .ensures)
+    listing-end (call .result) _ (first .result) _ (first .ensures) (c .before .list-letter .ensures)
 
 pub list-with-spec : {M : Type 1} → statement M
 list-with-spec =
