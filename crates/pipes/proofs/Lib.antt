@@ -1,4 +1,3 @@
 pub mod Within
 pub mod Taken
 pub mod Came
-mod Ended

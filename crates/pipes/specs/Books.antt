@@ -1,28 +1,31 @@
--- What can be said to have come of a book, except for what only the descriptors know. Assumes nothing: these are definitions.
+-- What came of a book, for what was read. Assumes nothing: these are definitions.
 use mathlib.Core.Path.{_≡_}
 use mathlib.Core.Bool.{true, false}
-use mathlib.Core.Logic.{_⊎_}
-use Prim.Native.Nat.{ℕ, _≤_, _<_}
+use Prim.Native.Nat.{ℕ, _≤_}
 use Rattle.pipes.specs.declared.Ran.the-variants as ran
+use Rattle.pipes.specs.declared.reading.Brought.{Brought}
+use Rattle.pipes.specs.declared.reading.Brought.the-variants as brought
 use Rattle.pipes.specs.declared.books.Came.{Came}
 use Rattle.pipes.specs.declared.books.Came.the-variants as came
+use Rattle.pipes.specs.Reading.{ReadTo}
 
--- Of a book of so many bytes all came, and input may follow; or fewer came until the input ended; a failed read brings no book.
-abbrev pub BookOf : ℕ → Came → Type 0
-BookOf length (came.Book size true) = size ≡ length
-BookOf length (came.Book size false) = size < length
-BookOf length (came.Not told) = told ≡ ran.BookNotRead
+-- Of a book of so many bytes all came, and input may follow; or those until the input ended; a failed read brings no book.
+unfoldable pub bookOf : ℕ → Brought → Came
+bookOf size brought.Full = came.Book size true
+bookOf size (brought.Ended count) = came.Book count false
+bookOf size brought.Failed = came.Not ran.BookNotRead
 
--- The same of a book whose length two bytes say, if they come: it has no more bytes than these can say.
-abbrev pub SizedBook : Came → Type 0
-SizedBook (came.Book size true) = size ≤ 65535
-SizedBook (came.Book size false) = size < 65535
-SizedBook (came.Not told) = told ≡ ran.BookNotRead
+-- Two bytes say the book's length, 65,535 at most; where the input ends with them or before, the book is empty.
+abbrev pub SizedBook : Brought → Came → Type 0
+SizedBook brought.Full book = (size : ℕ) × ((size ≤ 65535) × ReadTo size (λ b. book ≡ bookOf size b))
+SizedBook (brought.Ended count) book = book ≡ came.Book 0 false
+SizedBook brought.Failed book = book ≡ came.Not ran.BookNotRead
 
--- A book that is the whole input is shorter than the buffer, and its letter comes from elsewhere; a full buffer or a failed read brings no book.
-abbrev pub WholeBook : ℕ → Came → Type 0
-WholeBook room (came.Book size more) = (size < room) × (more ≡ true)
-WholeBook room (came.Not told) = (told ≡ ran.BookTooLong) ⊎ (told ≡ ran.BookNotRead)
+-- A book that is the whole input is shorter than the buffer, and its letter comes from elsewhere.
+unfoldable pub wholeOf : Brought → Came
+wholeOf brought.Full = came.Not ran.BookTooLong
+wholeOf (brought.Ended count) = came.Book count true
+wholeOf brought.Failed = came.Not ran.BookNotRead
 
 -- No more than the buffer holds.
 abbrev pub CameWithin : Came → ℕ → Type 0

@@ -11,20 +11,27 @@ use Rattle.lines.specs.declared.answers.Opened.{Opened}
 use Rattle.lines.specs.declared.answers.Opened.the-variants as opened
 use Rattle.lines.specs.declared.answers.Listed.{Listed}
 use Rattle.lines.specs.declared.answers.Listed.the-variants as listed
+use Rattle.pipes.specs.declared.reading.Brought.{Brought}
+use Rattle.pipes.specs.declared.reading.Brought.the-variants as brought
 use Rattle.pipes.specs.declared.Ran.{Ran}
 use Rattle.pipes.specs.declared.Ran.the-variants as ran
 use Rattle.pipes.specs.declared.totals.Totals.{Totals}
 use Rattle.pipes.specs.declared.letter.Standing.{Standing}
 use Rattle.pipes.specs.declared.letter.Turn.{Turn}
 use Rattle.pipes.specs.declared.letter.Turn.the-variants as turn
+use Rattle.pipes.specs.Reading.{ReadTo}
 
 -- Once lines are written the answer is given; where a write fails, the listing is over with that.
 abbrev pub OrNotWritten : Turn → Turn → Type 0
 OrNotWritten answer given = (given ≡ answer) ⊎ (given ≡ turn.Over ran.NotWritten)
 
--- A letter of which nothing was read, and whether input may follow.
+-- A part of so many bytes, of which none is used.
+unfoldable pub unused : ℕ → Bool → Totals → Standing
+unused size more totals = record { size = size; used = 0; more = more; totals = totals }
+
+-- A letter of which nothing was read.
 unfoldable pub unread : Bool → Standing
-unread more = record { size = 0; used = 0; more = more; totals = record { taken = 0; hits = 0; steps = 0 } }
+unread more = unused 0 more record { taken = 0; hits = 0; steps = 0 }
 
 -- The letter begins where the book is ready, and a refused book ends the listing.
 abbrev pub Started : Opened → Bool → Turn → Type 0
@@ -36,18 +43,20 @@ abbrev pub PartInside : Turn → ℕ → Type 0
 PartInside (turn.On standing) room = standing .size ≤ room
 PartInside (turn.Over told) room = Unit {0}
 
--- Where no bytes come, the letter is listed to its end, unless a write or a read failed.
-abbrev pub ReadEnd : Ran → Type 0
-ReadEnd told = (told ≡ ran.Listed) ⊎ ((told ≡ ran.NotWritten) ⊎ (told ≡ ran.LetterNotRead))
+-- Where the input ended: the letter does with no byte; some bytes are its last part.
+abbrev pub LastPart : Bool → ℕ → Totals → Turn → Type 0
+LastPart true count totals next = OrNotWritten (turn.Over ran.Listed) next
+LastPart false count totals next = next ≡ turn.On (unused count false totals)
 
--- A part that was read has a byte or more, none of them used, and input may follow it exactly where it fills the buffer.
-abbrev pub PartRead : Totals → ℕ → Turn → Type 0
-PartRead totals room (turn.On standing) = (0 < standing .size) × (standing .size ≤ room) × (standing .used ≡ 0) × (standing .more ≡ eqb (standing .size) room) × (standing .totals ≡ totals)
-PartRead totals room (turn.Over told) = ReadEnd told
+-- Input may follow a part that fills the buffer, and no other; a failed read is not the end of the letter.
+abbrev pub PartOf : ℕ → Totals → Brought → Turn → Type 0
+PartOf room totals brought.Full next = next ≡ turn.On (unused room true totals)
+PartOf room totals (brought.Ended count) next = LastPart (eqb count 0) count totals next
+PartOf room totals brought.Failed next = next ≡ turn.Over ran.LetterNotRead
 
 -- Where all bytes of a part are used, the next part is read if input may follow; otherwise the letter ends.
 abbrev pub NextPart : Bool → Totals → List ℕ → Turn → List ℕ → Type 0
-NextPart true totals part next after = PartRead totals (length part) next
+NextPart true totals part next after = ReadTo (length part) (λ b. PartOf (length part) totals b next)
 NextPart false totals part next after = OrNotWritten (turn.Over ran.Listed) next × (after ≡ part)
 
 -- While some bytes of a part are left, they are the next ones, and the buffer is as it was: a part is used up before the next is read.

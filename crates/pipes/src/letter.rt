@@ -3,7 +3,7 @@ ghost use mathlib.Core.Path.{_≡_};
 ghost use Prim.Native.Nat.{_+_, _≤_, _<_};
 ghost use lib.ListN.{length};
 ghost use Rattle.lines.specs.Answers.{openedEnd, listedTaken, listedEnd};
-ghost use Rattle.pipes.specs.Letter.{PartInside, Started, Next, PartRead, afterBytes, AfterCall};
+ghost use Rattle.pipes.specs.Letter.{PartInside, Started, Next, PartOf, afterBytes, AfterCall};
 use crate::Ran;
 use crate::ends::write_end;
 use crate::ends::write_too_long;
@@ -73,7 +73,8 @@ pub fn next(turn: Turn, part: &mut [u8], from: i32, to: i32) -> Turn
                 return Turn::On { standing };
             }
             if standing.more {
-                return read_part(standing.totals, part, from, to);
+                let brought = fill(from, part);
+                return part_of(brought, part.len(), standing.totals, to);
             }
             write_end(standing.totals, to)
         }
@@ -81,16 +82,14 @@ pub fn next(turn: Turn, part: &mut [u8], from: i32, to: i32) -> Turn
     }
 }
 
-// Reads a part. The last one is shorter; where it has no byte, the letter ended with the part before.
-fn read_part(totals: Totals, part: &mut [u8], from: i32, to: i32) -> Turn
-    requires { ⌜ 0 < length (now part) ⌝ }
-    ensures { λ r. ⌜ PartRead totals (length (now (part .entry))) r ⌝ }
+// What a read brought, as the next part. The last one is shorter; where it has no byte, the letter ended with the part before.
+fn part_of(brought: Brought, room: usize, totals: Totals, to: i32) -> Turn
+    ensures { λ r. ⌜ PartOf room totals brought r ⌝ }
 {
-    let brought = fill(from, part);
     match brought {
         Brought::Full => Turn::On {
             standing: Standing {
-                size: part.len(),
+                size: room,
                 used: 0,
                 more: true,
                 totals,

@@ -15,6 +15,7 @@ pub use letter::Turn;
 pub use letter::after;
 pub use letter::next;
 pub use letter::start;
+pub use reading::Brought;
 pub use totals::Totals;
 pub use words::say;
 

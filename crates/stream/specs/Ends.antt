@@ -5,11 +5,11 @@ use Rattle.pipes.specs.declared.Ran.{Ran}
 use Rattle.pipes.specs.declared.Ran.the-variants as ran
 use Rattle.pipes.specs.declared.letter.Turn.{Turn}
 use Rattle.pipes.specs.declared.letter.Turn.the-variants as turn
-use Rattle.pipes.specs.Letter.{ReadEnd, CallEnd}
+use Rattle.pipes.specs.Letter.{CallEnd}
 
--- A letter ends where no bytes come, or by a call; no end of a book is told of it.
+-- A letter is listed to its end, or a read fails, or a call ends it; no end of a book is told of it.
 abbrev pub LetterEnd : Ran → Type 0
-LetterEnd told = ReadEnd told ⊎ CallEnd told
+LetterEnd told = (told ≡ ran.Listed) ⊎ ((told ≡ ran.LetterNotRead) ⊎ CallEnd told)
 
 -- A listing that is over ends as it did, and any other as its letter.
 abbrev pub EndFrom : Turn → Ran → Type 0

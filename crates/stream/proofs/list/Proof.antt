@@ -19,7 +19,7 @@ slice-aggregate-list-came c = sym (c .before .before .sized-book .kept .1 .0)
 list-came-requires : tie.Need-list-came-requires
 list-came-requires c κs =
     let came = c .before .before .sized-book in
-    sized-within (came .result) (length (came .last .1 .0)) (filled 65535 (length (came .last .1 .0)) (came .kept .1 .0)) (came .ensures)
+    sized-within (came .ensures .0) (came .result) (length (came .last .1 .0)) (filled 65535 (length (came .last .1 .0)) (came .kept .1 .0)) (came .ensures .1 .1)
 
 returns : tie.Need-returns
 returns c = tt

@@ -1,5 +1,6 @@
 -- Reading keeps the length of the buffer. Assumes nothing.
 use mathlib.Core.Path.{sym, subst}
+use Rattle.pipes.specs.declared.books.Came.{Came}
 use Rattle.pipes.specs.Books.{CameWithin}
 use Rattle.pipes.proofs.Came.{whole-within}
 use Rattle.stream.proofs.Arrays.{counted}
@@ -18,7 +19,8 @@ slice-aggregate-list-came c = sym (c .before .before .whole-book .kept .1 .0)
 list-came-requires : tie.Need-list-came-requires
 list-came-requires c κs =
     let came = c .before .before .whole-book in
-    subst (CameWithin (came .result)) (sym (came .kept .1 .0)) (whole-within (came .result) _ (came .ensures))
+    let read = came .ensures in
+    subst (CameWithin (came .result)) (sym (came .kept .1 .0)) (subst (λ (book : Came). CameWithin book _) (sym (read .1 .1)) (whole-within (read .0) _ (read .1 .0)))
 
 returns : tie.Need-returns
 returns c = tt

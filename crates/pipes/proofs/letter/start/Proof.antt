@@ -2,7 +2,7 @@
 use mathlib.Core.Path.{sym}
 use lib.Seq.{length-take-le}
 use Rattle.lines.specs.Answers.{openedEnd}
-use Rattle.pipes.specs.Letter.{unread}
+use Rattle.pipes.specs.Letter.{unused, unread}
 use borrow.Author.Needs.{needs}
 use Rattle.pipes.proofs.letter.start.Statement.{statement}
 use Rattle.pipes.proofs.letter.start.Tie as tie
@@ -31,7 +31,7 @@ written-requires-2 : tie.Need-written-requires-2
 written-requires-2 c κs = search needs
 
 returns : tie.Need-returns
-unfolding unread
+unfolding unread unused
 returns c = rw (c .before .before .before .opened .given .1) (c .written .ensures)
 
 returns-2 : tie.Need-returns-2

@@ -40,7 +40,7 @@ list-some-requires c κs =
     let here = c .before .before .before .before .before .before .before .before .before .loop in
     let next = c .before .before .before .before .before .before .next in
     let is = c .before .before .before .turn .given in
-    let offers = next-offers (here .turn) (here .part) (next .result) (next .last .1 .0) 4096 (here .inv .2) (here .inv .3) (next .ensures) in
+    let offers = next-offers (here .turn) (here .part) (next .result) (next .last .1 .0) 4096 (here .inv .2) (lit< tt) (here .inv .3) (next .ensures) in
     offered-inside (next .result) (is .0 .0) 4096 (is .1) offers (length (next .last .1 .0)) (next .kept .1 .0 ∙ here .inv .2)
 
 enum-known-turn-2 : tie.Need-enum-known-turn-2 Inv-loop μ-loop
@@ -69,7 +69,7 @@ loop-again c =
     let is = c .before .before .before .before .before .before .turn .given in
     let some = c .before .before .list-some in
     let first = c .before .before .before .before .before .before .before .before .before .before .before .before .before .before .before .args .first in
-    let offers = next-offers (here .turn) (here .part) (next .result) (next .last .1 .0) 4096 (here .inv .2) (here .inv .3) (next .ensures) in
+    let offers = next-offers (here .turn) (here .part) (next .result) (next .last .1 .0) 4096 (here .inv .2) (lit< tt) (here .inv .3) (next .ensures) in
     let reached = next-reached first (here .turns) (here .turn) (here .part) (next .result) (next .last .1 .0) (here .inv .4) (next .ensures) in (
       omega arith,
       some .kept .1 .0 ∙ here .inv .1,
