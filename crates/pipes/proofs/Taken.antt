@@ -9,7 +9,7 @@ use borrow.Author.Tests.{eqb-false, ne-eqb}
 use Rattle.lines.specs.Answers.{listedTaken}
 use Rattle.lines.specs.declared.answers.Listed.{Listed}
 use Rattle.lines.specs.declared.answers.Listed.the-variants as listed
-use Rattle.pipes.specs.declared.totals.Totals.{Totals}
+use Rattle.pipes.specs.declared.letter.Totals.{Totals}
 use Rattle.pipes.specs.declared.letter.Standing.{Standing}
 use Rattle.pipes.specs.declared.letter.Turn.{Turn}
 use Rattle.pipes.specs.declared.letter.Turn.the-variants as turn

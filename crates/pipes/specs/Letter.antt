@@ -15,7 +15,7 @@ use Rattle.pipes.specs.declared.reading.Brought.{Brought}
 use Rattle.pipes.specs.declared.reading.Brought.the-variants as brought
 use Rattle.pipes.specs.declared.Ran.{Ran}
 use Rattle.pipes.specs.declared.Ran.the-variants as ran
-use Rattle.pipes.specs.declared.totals.Totals.{Totals}
+use Rattle.pipes.specs.declared.letter.Totals.{Totals}
 use Rattle.pipes.specs.declared.letter.Standing.{Standing}
 use Rattle.pipes.specs.declared.letter.Turn.{Turn}
 use Rattle.pipes.specs.declared.letter.Turn.the-variants as turn

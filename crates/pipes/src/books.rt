@@ -60,9 +60,10 @@ fn book_of(brought: Brought, size: usize) -> Came
             size: count,
             more: false,
         },
-        Brought::Failed => Came::Not {
-            ran: Ran::BookNotRead,
-        },
+        Brought::Failed => {
+            let ran = Ran::BookNotRead;
+            Came::Not { ran }
+        }
     }
 }
 

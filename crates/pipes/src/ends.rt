@@ -3,8 +3,8 @@ ghost use Rattle.pipes.specs.declared.Ran.the-variants as ran;
 ghost use Rattle.pipes.specs.declared.letter.Turn.the-variants as turn;
 ghost use Rattle.pipes.specs.Letter.{OrNotWritten};
 use crate::Ran;
+use crate::letter::Totals;
 use crate::letter::Turn;
-use crate::totals::Totals;
 use counters::Place;
 use listing::LONGEST_LINE;
 

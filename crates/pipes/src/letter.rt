@@ -10,9 +10,15 @@ use crate::ends::write_too_long;
 use crate::ends::written;
 use crate::reading::Brought;
 use crate::reading::fill;
-use crate::totals::Totals;
 use lines::Listed;
 use lines::Opened;
+
+// What a letter has come to so far.
+pub struct Totals {
+    pub taken: u64,
+    pub hits: u64,
+    pub steps: u64,
+}
 
 // Where a letter stands: the part that was read last has `size` bytes, of which `used` are used; whether input may follow it; and what the
 // letter has come to.
@@ -131,7 +137,8 @@ pub fn after(listed: Listed, lines: &[u8], standing: Standing, to: i32) -> Turn
     }
 }
 
-// Where a letter stands after so many bytes more. A call that takes none would be made again for ever: it ends the listing.
+// Where a letter stands after so many bytes more. A call that takes none would be made again for ever: it ends the listing. A byte brings
+// at most 128 hits, and a letter no more steps than bytes, so that no sum comes near 2^64.
 fn took(standing: Standing, taken: usize, hits: usize, steps: u64) -> Turn
     requires { ⌜ standing .used + taken ≤ standing .size ⌝ }
     ensures { λ r. ⌜ r ≡ afterBytes standing taken hits steps ⌝ }
@@ -145,7 +152,11 @@ fn took(standing: Standing, taken: usize, hits: usize, steps: u64) -> Turn
             size: standing.size,
             used: standing.used + taken,
             more: standing.more,
-            totals: totals.plus(taken, hits, steps),
+            totals: Totals {
+                taken: std::num::wrapping_add_u64(totals.taken, lent::size64(taken)),
+                hits: std::num::wrapping_add_u64(totals.hits, lent::size64(hits)),
+                steps: std::num::wrapping_add_u64(totals.steps, steps),
+            },
         },
     }
 }

@@ -6,10 +6,6 @@ use Rattle.pipes.specs.Reading.{Fits}
 use borrow.Author.Needs.{needs}
 use Rattle.pipes.proofs.books.book_behind.Statement.{statement}
 use Rattle.pipes.proofs.books.book_behind.Tie as tie
-use Rattle.pipes.proofs.books.book_behind.Reads as reads
-use Rattle.pipes.proofs.books.book_behind.Lts as lts
-use Rattle.pipes.proofs.books.book_of.Reads as book-of-reads
-use Rattle.pipes.proofs.reading.fill.Reads as fill-reads
 
 enum-told : tie.Need-enum-told
 enum-told c = search needs
@@ -36,7 +32,7 @@ same-length : tie.Need-same-length
 same-length c = search needs
 
 returns : tie.Need-returns
-returns c = 
+returns c =
     let a = c .before .before .before .before .before .before .before .before .args in
     let pre = c .before .before .before .before .before .before .before .before .pre in
     let read = c .before .before .before .fill in

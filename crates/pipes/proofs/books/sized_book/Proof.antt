@@ -2,12 +2,6 @@
 use borrow.Author.Needs.{needs}
 use Rattle.pipes.proofs.books.sized_book.Statement.{statement}
 use Rattle.pipes.proofs.books.sized_book.Tie as tie
-use Rattle.pipes.proofs.books.sized_book.Reads as reads
-use Rattle.pipes.proofs.books.sized_book.Lts as lts
-use Rattle.lent.proofs.get2_high.Reads as get2-high-reads
-use Rattle.lent.proofs.pair_size.Reads as pair-size-reads
-use Rattle.pipes.proofs.books.book_behind.Reads as book-behind-reads
-use Rattle.pipes.proofs.reading.fill.Reads as fill-reads
 
 slice-aggregate-fill : tie.Need-slice-aggregate-fill
 slice-aggregate-fill c = search needs

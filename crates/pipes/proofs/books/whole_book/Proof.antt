@@ -2,10 +2,6 @@
 use borrow.Author.Needs.{needs}
 use Rattle.pipes.proofs.books.whole_book.Statement.{statement}
 use Rattle.pipes.proofs.books.whole_book.Tie as tie
-use Rattle.pipes.proofs.books.whole_book.Reads as reads
-use Rattle.pipes.proofs.books.whole_book.Lts as lts
-use Rattle.pipes.proofs.books.whole_of.Reads as whole-of-reads
-use Rattle.pipes.proofs.reading.fill.Reads as fill-reads
 
 fill-requires : tie.Need-fill-requires
 fill-requires c κs = search needs

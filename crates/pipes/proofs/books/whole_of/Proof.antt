@@ -3,8 +3,6 @@ use Rattle.pipes.specs.Books.{wholeOf}
 use borrow.Author.Needs.{needs}
 use Rattle.pipes.proofs.books.whole_of.Statement.{statement}
 use Rattle.pipes.proofs.books.whole_of.Tie as tie
-use Rattle.pipes.proofs.books.whole_of.Reads as reads
-use Rattle.pipes.proofs.books.whole_of.Lts as lts
 
 enum-told : tie.Need-enum-told
 enum-told c = search needs

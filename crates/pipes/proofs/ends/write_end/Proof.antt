@@ -5,11 +5,6 @@ use native.Mathlib.Omega.{arith}
 use borrow.Author.Needs.{needs}
 use Rattle.pipes.proofs.ends.write_end.Statement.{statement}
 use Rattle.pipes.proofs.ends.write_end.Tie as tie
-use Rattle.pipes.proofs.ends.write_end.Reads as reads
-use Rattle.pipes.proofs.ends.write_end.Lts as lts
-use Rattle.counters.proofs.Place.at.Reads as at-reads
-use Rattle.lines.proofs.last_lines.Reads as last-lines-reads
-use Rattle.pipes.proofs.ends.written.Reads as written-reads
 
 slice-aggregate-last-lines : tie.Need-slice-aggregate-last-lines
 slice-aggregate-last-lines c = search needs

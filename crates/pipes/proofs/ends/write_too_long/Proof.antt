@@ -5,11 +5,6 @@ use native.Mathlib.Omega.{arith}
 use borrow.Author.Needs.{needs}
 use Rattle.pipes.proofs.ends.write_too_long.Statement.{statement}
 use Rattle.pipes.proofs.ends.write_too_long.Tie as tie
-use Rattle.pipes.proofs.ends.write_too_long.Reads as reads
-use Rattle.pipes.proofs.ends.write_too_long.Lts as lts
-use Rattle.counters.proofs.Place.at.Reads as at-reads
-use Rattle.lines.proofs.too_long_line.Reads as too-long-line-reads
-use Rattle.pipes.proofs.ends.written.Reads as written-reads
 
 slice-aggregate-too-long-line : tie.Need-slice-aggregate-too-long-line
 slice-aggregate-too-long-line c = search needs

@@ -4,9 +4,6 @@ use mathlib.Core.Logic.{inl, inr}
 use borrow.Author.Needs.{needs}
 use Rattle.pipes.proofs.ends.written.Statement.{statement}
 use Rattle.pipes.proofs.ends.written.Tie as tie
-use Rattle.pipes.proofs.ends.written.Reads as reads
-use Rattle.pipes.proofs.ends.written.Lts as lts
-use Rattle.io.proofs.write_all.Reads as write-all-reads
 
 write-all-requires : tie.Need-write-all-requires
 write-all-requires c κs = search needs

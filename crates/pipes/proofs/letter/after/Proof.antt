@@ -5,11 +5,6 @@ use Rattle.lines.specs.Answers.{listedTaken, listedEnd}
 use borrow.Author.Needs.{needs}
 use Rattle.pipes.proofs.letter.after.Statement.{statement}
 use Rattle.pipes.proofs.letter.after.Tie as tie
-use Rattle.pipes.proofs.letter.after.Reads as reads
-use Rattle.pipes.proofs.letter.after.Lts as lts
-use Rattle.pipes.proofs.ends.write_too_long.Reads as write-too-long-reads
-use Rattle.pipes.proofs.ends.written.Reads as written-reads
-use Rattle.pipes.proofs.letter.took.Reads as took-reads
 
 enum-known-listed : tie.Need-enum-known-listed
 enum-known-listed c = search needs

@@ -6,11 +6,6 @@ use Rattle.pipes.specs.Letter.{PartOf}
 use borrow.Author.Needs.{needs}
 use Rattle.pipes.proofs.letter.next.Statement.{statement}
 use Rattle.pipes.proofs.letter.next.Tie as tie
-use Rattle.pipes.proofs.letter.next.Reads as reads
-use Rattle.pipes.proofs.letter.next.Lts as lts
-use Rattle.pipes.proofs.ends.write_end.Reads as write-end-reads
-use Rattle.pipes.proofs.letter.part_of.Reads as part-of-reads
-use Rattle.pipes.proofs.reading.fill.Reads as fill-reads
 
 enum-known-turn : tie.Need-enum-known-turn
 enum-known-turn c = search needs
@@ -28,7 +23,7 @@ same-length : tie.Need-same-length
 same-length c = search needs
 
 returns-2 : tie.Need-returns-2
-returns-2 c = 
+returns-2 c =
     let read = c .before .before .before .fill in
     let standing = c .before .before .before .before .before .before .before .before .before .turn .given .0 .0 in
     rw (c .before .before .before .before .before .before .before .before .before .turn .given .1, le-ltb _ _ (c .before .before .before .before .before .before .if1 .left), c .before .before .before .before .before .if2 .taken) (read .result, (read .ensures, subst (λ (n : ℕ). PartOf n (standing .totals) (read .result) (c .part-of .result)) (read .kept .1 .0) (c .part-of .ensures)))

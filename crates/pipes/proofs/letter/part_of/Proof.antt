@@ -4,9 +4,6 @@ use Rattle.pipes.specs.Letter.{unused}
 use borrow.Author.Needs.{needs}
 use Rattle.pipes.proofs.letter.part_of.Statement.{statement}
 use Rattle.pipes.proofs.letter.part_of.Tie as tie
-use Rattle.pipes.proofs.letter.part_of.Reads as reads
-use Rattle.pipes.proofs.letter.part_of.Lts as lts
-use Rattle.pipes.proofs.ends.write_end.Reads as write-end-reads
 
 enum-told : tie.Need-enum-told
 enum-told c = search needs

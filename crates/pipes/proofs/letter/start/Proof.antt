@@ -6,9 +6,6 @@ use Rattle.pipes.specs.Letter.{unused, unread}
 use borrow.Author.Needs.{needs}
 use Rattle.pipes.proofs.letter.start.Statement.{statement}
 use Rattle.pipes.proofs.letter.start.Tie as tie
-use Rattle.pipes.proofs.letter.start.Reads as reads
-use Rattle.pipes.proofs.letter.start.Lts as lts
-use Rattle.pipes.proofs.ends.written.Reads as written-reads
 
 enum-known-opened : tie.Need-enum-known-opened
 enum-known-opened c = search needs
