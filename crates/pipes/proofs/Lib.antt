@@ -1,2 +1,3 @@
 pub mod Within
-mod Taken
+pub mod Taken
+pub mod Came

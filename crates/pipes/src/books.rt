@@ -1,7 +1,9 @@
 // A book, read to the start of a buffer.
+ghost use mathlib.Core.Path.{_≡_};
 ghost use Prim.Native.Nat.{_≤_};
 ghost use lib.ListN.{length};
-ghost use Rattle.pipes.specs.Books.{CameWithin};
+ghost use Rattle.pipes.specs.Reading.{ReadTo};
+ghost use Rattle.pipes.specs.Books.{bookOf, SizedBook, wholeOf};
 use crate::Ran;
 use crate::reading::Brought;
 use crate::reading::fill;
@@ -20,12 +22,24 @@ pub enum Came {
 // cut.
 pub fn sized_book(from: i32, book: &mut [u8]) -> Came
     requires { ⌜ 65535 ≤ length (now book) ⌝ }
-    ensures { λ r. ⌜ CameWithin r (length (now (book .exit))) ⌝ }
+    ensures { λ r. ⌜ ReadTo 2 (λ b. SizedBook b r) ⌝ }
 {
     let mut length = [0u8; LENGTH_BYTES];
     let brought = fill(from, &mut length);
-    match brought {
-        Brought::Full => book_of(lent::pair_size(lent::get2_high(&length, 0)), from, book),
+    let size = lent::pair_size(lent::get2_high(&length, 0));
+    book_behind(brought, size, from, book)
+}
+
+// The book behind its length, if that came.
+fn book_behind(told: Brought, size: usize, from: i32, book: &mut [u8]) -> Came
+    requires { ⌜ (size ≤ 65535) × (size ≤ length (now book)) ⌝ }
+    ensures { λ r. ⌜ SizedBook told r ⌝ }
+{
+    match told {
+        Brought::Full => {
+            let brought = fill(from, &mut book[..size]);
+            book_of(brought, size)
+        }
         Brought::Ended { count: _ } => Came::Book {
             size: 0,
             more: false,
@@ -36,29 +50,34 @@ pub fn sized_book(from: i32, book: &mut [u8]) -> Came
     }
 }
 
-// The same once it is known how many bytes the book has.
-fn book_of(size: usize, from: i32, book: &mut [u8]) -> Came
-    requires { ⌜ size ≤ length (now book) ⌝ }
-    ensures { λ r. ⌜ CameWithin r (length (now (book .exit))) ⌝ }
+// What a read brought, as a book of so many bytes.
+fn book_of(brought: Brought, size: usize) -> Came
+    ensures { λ r. ⌜ r ≡ bookOf size brought ⌝ }
 {
-    let brought = fill(from, &mut book[..size]);
     match brought {
         Brought::Full => Came::Book { size, more: true },
         Brought::Ended { count } => Came::Book {
             size: count,
             more: false,
         },
-        Brought::Failed => Came::Not {
-            ran: Ran::BookNotRead,
-        },
+        Brought::Failed => {
+            let ran = Ran::BookNotRead;
+            Came::Not { ran }
+        }
     }
 }
 
-// The book that a descriptor brings to its end; the letter comes from another one. A full buffer is a book that is too long.
+// The book that a descriptor brings to its end; the letter comes from another one.
 pub fn whole_book(from: i32, book: &mut [u8]) -> Came
-    ensures { λ r. ⌜ CameWithin r (length (now (book .exit))) ⌝ }
+    ensures { λ r. ⌜ ReadTo (length (now (book .entry))) (λ b. r ≡ wholeOf b) ⌝ }
 {
-    let brought = fill(from, book);
+    whole_of(fill(from, book))
+}
+
+// What a read brought, as a whole book. A full buffer is a book that is too long.
+fn whole_of(brought: Brought) -> Came
+    ensures { λ r. ⌜ r ≡ wholeOf brought ⌝ }
+{
     match brought {
         Brought::Full => Came::Not {
             ran: Ran::BookTooLong,

@@ -3,16 +3,22 @@ ghost use mathlib.Core.Path.{_≡_};
 ghost use Prim.Native.Nat.{_+_, _≤_, _<_};
 ghost use lib.ListN.{length};
 ghost use Rattle.lines.specs.Answers.{openedEnd, listedTaken, listedEnd};
-ghost use Rattle.pipes.specs.Letter.{PartInside, Offers, Stays, UsedUp, afterBytes, TurnWithin};
+ghost use Rattle.pipes.specs.Letter.{PartInside, Started, Next, PartOf, afterBytes, AfterCall};
 use crate::Ran;
 use crate::ends::write_end;
 use crate::ends::write_too_long;
 use crate::ends::written;
 use crate::reading::Brought;
 use crate::reading::fill;
-use crate::totals::Totals;
 use lines::Listed;
 use lines::Opened;
+
+// What a letter has come to so far.
+pub struct Totals {
+    pub taken: u64,
+    pub hits: u64,
+    pub steps: u64,
+}
 
 // Where a letter stands: the part that was read last has `size` bytes, of which `used` are used; whether input may follow it; and what the
 // letter has come to.
@@ -21,20 +27,6 @@ pub struct Standing {
     pub used: usize,
     pub more: bool,
     pub totals: Totals,
-}
-
-impl Standing {
-    // No byte of the part is used.
-    fn unused(size: usize, more: bool, totals: Totals) -> Standing
-        ensures { λ r. ⌜ (r .size ≡ size) × (r .used ≡ 0) × (r .more ≡ more) × (r .totals ≡ totals) ⌝ }
-    {
-        Standing {
-            size,
-            used: 0,
-            more,
-            totals,
-        }
-    }
 }
 
 // Whether a listing goes on.
@@ -48,22 +40,30 @@ pub enum Turn {
 // The letter begins where the book is ready, once the line of the book is written.
 pub fn start(opened: Opened, line: &[u8], more: bool, to: i32) -> Turn
     requires { ⌜ openedEnd opened ≤ length (now line) ⌝ }
-    ensures { λ r. ⌜ PartInside r 0 ⌝ }
+    ensures { λ r. ⌜ Started opened more r ⌝ }
 {
     match opened {
         Opened::Ready { end } => {
-            if !io::write_all(to, &line[..end]) {
-                return Turn::Over {
-                    ran: Ran::NotWritten,
-                };
-            }
-            Turn::On {
-                standing: Standing::unused(0, more, Totals::none()),
-            }
+            let totals = Totals {
+                taken: 0,
+                hits: 0,
+                steps: 0,
+            };
+            let standing = Standing {
+                size: 0,
+                used: 0,
+                more,
+                totals,
+            };
+            written(Turn::On { standing }, &line[..end], to)
         }
-        Opened::Refused { end } => Turn::Over {
-            ran: written(Ran::BookRefused, &line[..end], to),
-        },
+        Opened::Refused { end } => written(
+            Turn::Over {
+                ran: Ran::BookRefused,
+            },
+            &line[..end],
+            to,
+        ),
     }
 }
 
@@ -71,50 +71,47 @@ pub fn start(opened: Opened, line: &[u8], more: bool, to: i32) -> Turn
 // follows, the end line is written.
 pub fn next(turn: Turn, part: &mut [u8], from: i32, to: i32) -> Turn
     requires { ⌜ (0 < length (now part)) × PartInside turn (length (now part)) ⌝ }
-    ensures { λ r. ⌜ Offers r (length (now (part .entry))) ⌝ }
-    ensures { λ r. ⌜ UsedUp turn (now (part .entry)) r (now (part .exit)) ⌝ }
+    ensures { λ r. ⌜ Next turn (now (part .entry)) r (now (part .exit)) ⌝ }
 {
     match turn {
-        Turn::On { standing } => next_bytes(standing, part, from, to),
+        Turn::On { standing } => {
+            if standing.used < standing.size {
+                return Turn::On { standing };
+            }
+            if standing.more {
+                let brought = fill(from, part);
+                return part_of(brought, part.len(), standing.totals, to);
+            }
+            write_end(standing.totals, to)
+        }
         Turn::Over { ran } => Turn::Over { ran },
     }
 }
 
-fn next_bytes(standing: Standing, part: &mut [u8], from: i32, to: i32) -> Turn
-    requires { ⌜ (0 < length (now part)) × (standing .size ≤ length (now part)) ⌝ }
-    ensures { λ r. ⌜ Offers r (length (now (part .entry))) ⌝ }
-    ensures { λ r. ⌜ Stays standing (now (part .entry)) r (now (part .exit)) ⌝ }
+// What a read brought, as the next part. The last one is shorter; where it has no byte, the letter ended with the part before.
+fn part_of(brought: Brought, room: usize, totals: Totals, to: i32) -> Turn
+    ensures { λ r. ⌜ PartOf room totals brought r ⌝ }
 {
-    if standing.used < standing.size {
-        return Turn::On { standing };
-    }
-    let totals = standing.totals;
-    if standing.more {
-        return read_part(totals, part, from, to);
-    }
-    Turn::Over {
-        ran: write_end(totals, to),
-    }
-}
-
-// Reads a part. The last one is shorter; where it has no byte, the letter ended with the part before.
-fn read_part(totals: Totals, part: &mut [u8], from: i32, to: i32) -> Turn
-    requires { ⌜ 0 < length (now part) ⌝ }
-    ensures { λ r. ⌜ Offers r (length (now (part .entry))) ⌝ }
-{
-    let brought = fill(from, part);
     match brought {
         Brought::Full => Turn::On {
-            standing: Standing::unused(part.len(), true, totals),
+            standing: Standing {
+                size: room,
+                used: 0,
+                more: true,
+                totals,
+            },
         },
         Brought::Ended { count } => {
             if count == 0 {
-                return Turn::Over {
-                    ran: write_end(totals, to),
-                };
+                return write_end(totals, to);
             }
             Turn::On {
-                standing: Standing::unused(count, false, totals),
+                standing: Standing {
+                    size: count,
+                    used: 0,
+                    more: false,
+                    totals,
+                },
             }
         }
         Brought::Failed => Turn::Over {
@@ -126,7 +123,7 @@ fn read_part(totals: Totals, part: &mut [u8], from: i32, to: i32) -> Turn
 // What a call on the rest of a part leads to. Its lines are written before anything else is done.
 pub fn after(listed: Listed, lines: &[u8], standing: Standing, to: i32) -> Turn
     requires { ⌜ (standing .used + listedTaken listed ≤ standing .size) × (listedEnd listed ≤ length (now lines)) ⌝ }
-    ensures { λ r. ⌜ TurnWithin standing r ⌝ }
+    ensures { λ r. ⌜ AfterCall listed standing r ⌝ }
 {
     match listed {
         Listed::Took {
@@ -134,25 +131,14 @@ pub fn after(listed: Listed, lines: &[u8], standing: Standing, to: i32) -> Turn
             hits,
             steps,
             end,
-        } => {
-            if !io::write_all(to, &lines[..end]) {
-                return Turn::Over {
-                    ran: Ran::NotWritten,
-                };
-            }
-            took(standing, taken, hits, steps)
-        }
-        Listed::TooLong => {
-            let totals = standing.totals;
-            Turn::Over {
-                ran: write_too_long(totals, to),
-            }
-        }
+        } => written(took(standing, taken, hits, steps), &lines[..end], to),
+        Listed::TooLong => write_too_long(standing.totals, to),
         Listed::NotTaken => Turn::Over { ran: Ran::NotTaken },
     }
 }
 
-// Where a letter stands after so many bytes more. A call that takes none would be made again for ever: it ends the listing.
+// Where a letter stands after so many bytes more. A call that takes none would be made again for ever: it ends the listing. A byte brings
+// at most 128 hits, and a letter no more steps than bytes, so that no sum comes near 2^64.
 fn took(standing: Standing, taken: usize, hits: usize, steps: u64) -> Turn
     requires { ⌜ standing .used + taken ≤ standing .size ⌝ }
     ensures { λ r. ⌜ r ≡ afterBytes standing taken hits steps ⌝ }
@@ -166,7 +152,11 @@ fn took(standing: Standing, taken: usize, hits: usize, steps: u64) -> Turn
             size: standing.size,
             used: standing.used + taken,
             more: standing.more,
-            totals: totals.plus(taken, hits, steps),
+            totals: Totals {
+                taken: std::num::wrapping_add_u64(totals.taken, lent::size64(taken)),
+                hits: std::num::wrapping_add_u64(totals.hits, lent::size64(hits)),
+                steps: std::num::wrapping_add_u64(totals.steps, steps),
+            },
         },
     }
 }

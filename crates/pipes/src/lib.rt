@@ -4,18 +4,18 @@ mod books;
 mod ends;
 mod letter;
 mod reading;
-mod totals;
 mod words;
 
 pub use books::Came;
 pub use books::sized_book;
 pub use books::whole_book;
 pub use letter::Standing;
+pub use letter::Totals;
 pub use letter::Turn;
 pub use letter::after;
 pub use letter::next;
 pub use letter::start;
-pub use totals::Totals;
+pub use reading::Brought;
 pub use words::say;
 
 // How a listing ended: what the caller is told, since what was read and written no contract can say.

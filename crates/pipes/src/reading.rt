@@ -2,8 +2,8 @@
 ghost use lib.ListN.{length};
 ghost use Rattle.pipes.specs.Reading.{Fits};
 
-// What a joined read brought.
-pub(crate) enum Brought {
+// What a joined read brought; the contracts of the calls that read speak of it.
+pub enum Brought {
     // the buffer is full; more may follow
     Full,
     // the input ended after so many bytes, which are fewer than the buffer holds

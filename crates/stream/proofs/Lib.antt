@@ -1,2 +1,3 @@
 mod Arrays
 mod Left
+mod Ends

@@ -2,6 +2,7 @@
 ghost use Prim.Native.Nat.{_≤_};
 ghost use lib.ListN.{length};
 ghost use Rattle.pipes.specs.Letter.{PartInside, TurnWithin};
+ghost use Rattle.stream.specs.Ends.{EndFrom};
 use listing::LONGEST_LINE;
 use pipes::Ran;
 use pipes::Standing;
@@ -26,6 +27,7 @@ const LINES: usize = LONGEST_LINE * REPORTS;
 // Lists the letter to its end.
 pub(crate) fn list_letter(tables: &[u8], running: &mut [u8], first: Turn, from: i32, to: i32) -> Ran
     requires { ⌜ PartInside first 0 ⌝ }
+    ensures { λ r. ⌜ EndFrom first r ⌝ }
 {
     let mut part = [0u8; PART];
     let mut turn = first;

@@ -2,6 +2,7 @@
 // is decided, crate `parts` decides, on slices; crate `pipes` moves the bytes; here the two take turns.
 ghost use lib.ListN.{length};
 ghost use Rattle.pipes.specs.Books.{CameWithin};
+ghost use Rattle.stream.specs.Ends.{ListingEnd};
 use letter::list_letter;
 use listing::LONGEST_LINE;
 use pipes::Came;
@@ -45,7 +46,9 @@ fn list_came(came: Came, book: &[u8], from: i32, to: i32, told: i32)
 }
 
 // Opens the book and lists the letter. Where no input follows the book, the letter is empty, and nothing more is read.
-fn list_with(book: &[u8], more: bool, from: i32, to: i32) -> Ran {
+fn list_with(book: &[u8], more: bool, from: i32, to: i32) -> Ran
+    ensures { λ r. ⌜ ListingEnd r ⌝ }
+{
     let mut tables = [0u8; TABLES];
     let mut running = [0u8; RUNNING];
     let mut line = [0u8; LONGEST_LINE];

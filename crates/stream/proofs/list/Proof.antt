@@ -1,7 +1,9 @@
 -- Two bytes say no more than the buffer holds, and reading keeps its length. Assumes nothing.
 use mathlib.Core.Path.{sym}
 use native.Mathlib.Nat.{le-of-eq}
-use Rattle.stream.proofs.Arrays.{counted}
+use lib.ListN.{length}
+use Rattle.pipes.proofs.Came.{sized-within}
+use Rattle.stream.proofs.Arrays.{counted, filled}
 use Rattle.stream.proofs.list.Statement.{statement}
 use Rattle.stream.proofs.list.Tie as tie
 
@@ -15,7 +17,9 @@ slice-aggregate-list-came : tie.Need-slice-aggregate-list-came
 slice-aggregate-list-came c = sym (c .before .before .sized-book .kept .1 .0)
 
 list-came-requires : tie.Need-list-came-requires
-list-came-requires c κs = c .before .before .sized-book .ensures
+list-came-requires c κs =
+    let came = c .before .before .sized-book in
+    sized-within (came .ensures .0) (came .result) (length (came .last .1 .0)) (filled 65535 (length (came .last .1 .0)) (came .kept .1 .0)) (came .ensures .1 .1)
 
 returns : tie.Need-returns
 returns c = tt

@@ -2,6 +2,8 @@
 use mathlib.Core.Path.{sym, subst}
 use Prim.Native.Nat.{ℕ, _≤_}
 use Rattle.lines.specs.Answers.{openedEnd}
+use Rattle.pipes.proofs.Within.{started-inside}
+use Rattle.stream.proofs.Ends.{listing-end}
 use Rattle.stream.proofs.Arrays.{counted}
 use Rattle.stream.proofs.list_with.Statement.{statement}
 use Rattle.stream.proofs.list_with.Tie as tie
@@ -33,10 +35,16 @@ slice-aggregate-list-letter-2 : tie.Need-slice-aggregate-list-letter-2
 slice-aggregate-list-letter-2 c = sym (c .before .before .before .before .before .before .before .open-book .kept .1 .1 .0)
 
 list-letter-requires : tie.Need-list-letter-requires
-list-letter-requires c κs = c .before .before .start .ensures
+list-letter-requires c κs =
+    let first = c .before .before .start in
+    let opened = c .before .before .before .before .before .before .before .open-book .result in
+    started-inside opened _ (first .result) (first .ensures)
 
 returns : tie.Need-returns
-returns c = tt
+returns c =
+    let call = c .before .before .before .before .before .before .before .before .before .open-book in
+    let first = c .before .before .before .before .start in
+    listing-end (call .result) _ (first .result) _ (first .ensures) (c .before .list-letter .ensures)
 
 pub list-with-spec : {M : Type 1} → statement M
 list-with-spec =

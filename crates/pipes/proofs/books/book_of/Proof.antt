@@ -1,19 +1,8 @@
--- Where the input ends, fewer bytes came than the book was to have. Assumes nothing.
-use mathlib.Core.Path.{sym}
-use lib.Seq.{length-take-le}
-use native.Mathlib.Omega.{arith}
+-- By cases of what was read. Assumes nothing.
+use Rattle.pipes.specs.Books.{bookOf}
 use borrow.Author.Needs.{needs}
 use Rattle.pipes.proofs.books.book_of.Statement.{statement}
 use Rattle.pipes.proofs.books.book_of.Tie as tie
-
-slice-relend-prefix-fill : tie.Need-slice-relend-prefix-fill
-slice-relend-prefix-fill c = search needs
-
-slice-aggregate-fill : tie.Need-slice-aggregate-fill
-slice-aggregate-fill c = sym (length-take-le _ _ (omega arith))
-
-fill-requires : tie.Need-fill-requires
-fill-requires c κs = search needs
 
 enum-told : tie.Need-enum-told
 enum-told c = search needs
@@ -24,39 +13,18 @@ enum-known-brought c = search needs
 enum-told-2 : tie.Need-enum-told-2
 enum-told-2 c = search needs
 
-same-length : tie.Need-same-length
-same-length c = search needs
-
 returns : tie.Need-returns
-returns c = search needs
-
-same-length-2 : tie.Need-same-length-2
-same-length-2 c = search needs
+unfolding bookOf
+returns c = rw (c .enum-told .given .1)
 
 returns-2 : tie.Need-returns-2
-returns-2 c =
-    let a = c .before .before .before .before .before .before .before .before .args in
-    omega (arith, rw (c .before .brought .given .1) at (c .before .before .before .before .before .fill .ensures), length-take-le (a .size) (a .book .now) (c .before .before .before .before .before .before .before .before .pre))
-
-same-length-3 : tie.Need-same-length-3
-same-length-3 c = search needs
+unfolding bookOf
+returns-2 c = rw (c .before .brought .given .1)
 
 returns-3 : tie.Need-returns-3
-returns-3 c = search needs
+unfolding bookOf
+returns-3 c = rw (c .enum-told2 .given .1)
 
 pub book-of-spec : {M : Type 1} → statement M
 book-of-spec =
-    tie.close
-    (tie.spec
-    slice-relend-prefix-fill
-    slice-aggregate-fill
-    fill-requires
-    enum-told
-    enum-known-brought
-    enum-told-2
-    same-length
-    returns
-    same-length-2
-    returns-2
-    same-length-3
-    returns-3)
+    tie.close (tie.spec enum-told enum-known-brought enum-told-2 returns returns-2 returns-3)

@@ -1,5 +1,4 @@
--- The last lines end inside the buffer.
--- Assumes nothing.
+-- The last lines end inside the buffer. Assumes nothing.
 use mathlib.Core.Path.{sym}
 use lib.Seq.{length-take-le}
 use native.Mathlib.Omega.{arith}

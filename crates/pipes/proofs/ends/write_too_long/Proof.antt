@@ -1,5 +1,4 @@
--- The line of a refused letter ends inside the buffer.
--- Assumes nothing.
+-- The line of a refused letter ends inside the buffer. Assumes nothing.
 use mathlib.Core.Path.{sym}
 use lib.Seq.{length-take-le}
 use native.Mathlib.Omega.{arith}

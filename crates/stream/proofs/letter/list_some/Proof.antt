@@ -3,6 +3,7 @@ use mathlib.Core.Path.{sym, subst}
 use Prim.Native.Nat.{ℕ, _≤_}
 use borrow.Author.Needs.{needs}
 use Rattle.lines.specs.Answers.{listedTaken, listedEnd}
+use Rattle.pipes.proofs.Taken.{after-within}
 use Rattle.stream.proofs.Arrays.{counted}
 use Rattle.stream.proofs.Left.{taken-left}
 use Rattle.stream.proofs.letter.list_some.Statement.{statement}
@@ -41,7 +42,10 @@ same-length : tie.Need-same-length
 same-length c = c .before .before .before .before .before .before .list-part .kept .1 .0
 
 returns : tie.Need-returns
-returns c = c .after .ensures
+returns c =
+    let a = c .before .before .before .before .before .before .before .before .before .before .before .before .before .before .args in
+    let call = c .before .before .before .before .before .before .list-part in
+    after-within (a .standing) (call .result) (c .after .result) (taken-left (a .part .now) (a .standing .used) (a .standing .size) (listedTaken (call .result)) (c .before .before .before .before .before .before .before .before .before .before .before .before .before .before .pre .0) (call .ensures .1 .0)) (c .after .ensures)
 
 pub list-some-spec : {M : Type 1} → statement M
 list-some-spec =
