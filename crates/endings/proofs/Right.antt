@@ -9,11 +9,11 @@ use lib.ListN.{getD, List·getD-eq-default}
 use borrow.Author.Tests.{lt-ltb, le-ltb}
 use Rattle.lent.proofs.Cases.{lt-or-le}
 use Rattle.meaning.specs.Books.{Book}
-use Rattle.meaning.specs.Automaton.{suffixes}
+use Rattle.meaning.specs.Automaton.{suffixes, nonempty}
 use Rattle.format.specs.Limits.{Within}
 use Rattle.numbering.specs.States.{stateCount, stateAt}
 use Rattle.tables.specs.Spots.{Spot, spotsOf, noSpot, spotAt, spotCount}
-use Rattle.tables.specs.Endings.{piecesWith, piecesWithEach, endings, keywordOf, behind, linkTo, headOf, someIn, linkOf}
+use Rattle.tables.specs.Endings.{piecesWith, piecesWithEach, endings, keywordOf, behind, linkTo, headOf, linkOf}
 use Rattle.tables.specs.Layout.{roomForStates, roomForPieces, upTo, endingMark, outOf}
 use Rattle.tables.specs.Reads.{linkIn}
 use Rattle.tables.proofs.Fits.{fits}
@@ -92,7 +92,7 @@ module _ (book : Book) (within : Within book) where
 
     -- Afterwards info, out and the links are those of the layout.
     pub filled-right : Right book (filled at (stateCount book) (spotCount book) t)
-    unfolding endingMark outOf someIn headOf laterOf linkTo
+    unfolding endingMark outOf nonempty headOf laterOf linkTo
     filled-right = record {
       infos = λ i l. link-right .0 .shows i l .info ∙ up-to (stateCount book) (endingMark book) (λ j a. rw (no-ending j a)) i;
       outs = λ i l. link-right .0 .shows i l .out ∙ up-to (stateCount book) (outOf book) (λ j a. rw (no-ending j a)) i;

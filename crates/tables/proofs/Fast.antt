@@ -8,7 +8,7 @@ use native.Mathlib.Nat.{mul-add-div, div-eq-of-lt, mul-add-mod-self-left, mod-eq
 use native.Mathlib.Omega.{arith}
 use lib.ListN.{length}
 use Rattle.meaning.specs.Books.{Book}
-use Rattle.meaning.specs.Automaton.{isState, after, depth, parent}
+use Rattle.meaning.specs.Automaton.{isState, after, depth, parent, nonempty}
 use Rattle.meaning.proofs.States.{isState-closed}
 use Rattle.meaning.proofs.Depth.{depth-cons, depth-nil, depth-parent, steps-depth}
 use Rattle.format.specs.Limits.{Within, longestKeyword}
@@ -18,7 +18,7 @@ use Rattle.numbering.proofs.States.{number-empty}
 use Rattle.numbering.proofs.Steps.{stepBy-string}
 use Rattle.numbering.proofs.Limits.{stateAt-short}
 use Rattle.tables.specs.Regions.{entryLength, Laid}
-use Rattle.tables.specs.Endings.{someIn, endings}
+use Rattle.tables.specs.Endings.{endings}
 use Rattle.tables.specs.Classes.{occurs, occurringBelow, occurring, classOf, classCount}
 use Rattle.tables.specs.Layout.{always, depthOf, gainOf, endingMark, infoOf, denseCount, columnOf, nextByClass, cellOf, tablesLayout}
 use Rattle.tables.specs.Reads.{infoIn, denseIn, columnIn, cellIn, depthIn, gainIn}
@@ -126,7 +126,7 @@ module _ (book : Book) (within : Within book) where
 
     pub gain-laid : (i : ℕ) → i < stateCount book → gainIn t i ≡ gainOf book i
     unfolding infoOf endingMark
-    gain-laid i inside = go (someIn (endings book (stateAt book i))) (info-laid book within t laid i inside)
+    gain-laid i inside = go (nonempty (endings book (stateAt book i))) (info-laid book within t laid i inside)
       where
         go : (v : Bool) → infoIn t i ≡ gainOf book i + cond v 128 0 → gainIn t i ≡ gainOf book i
         go true e = omega (arith, e, gain-few i inside)
