@@ -2,7 +2,7 @@
 use mathlib.Core.Path.{_≡_, refl, _∙_}
 use mathlib.Core.Logic.{_⊎_, inl, inr, ⊎-elim}
 use mathlib.Core.Bool.{Bool, true, false, cond}
-use mathlib.Core.List.{List, [], _∷_}
+use mathlib.Core.List.{List}
 use Prim.Native.Nat.{ℕ, _+_, _*_, _≤_, _<_}
 use native.Mathlib.Omega.{arith}
 use lib.Dec.{leb}
@@ -15,6 +15,7 @@ use Rattle.meaning.specs.Automaton.{nonempty}
 use Rattle.tables.specs.Endings.{linkTo, headOf}
 use Rattle.tables.specs.Layout.{infoAt, outAt, failAt, pieceAt, roomForStates, roomForPieces}
 use Rattle.tables.specs.Reads.{Whole, linkIn, failIn, endingIn, firstLinkIn}
+use Rattle.tables.proofs.Meant.{link-head}
 use Rattle.endings.specs.Filled.{withEnding, withLink}
 use Rattle.endings.specs.Right.{Elsewhere}
 use Rattle.endings.specs.Progress.{Shows}
@@ -30,12 +31,8 @@ shows-ending t i pieces h = rw (h .info) (go (nonempty pieces))
     go false = refl
 
 pub shows-link : (t : List ℕ) (i : ℕ) (pieces : List ℕ) → Shows t i pieces → firstLinkIn t i ≡ linkTo pieces
-unfolding firstLinkIn linkTo nonempty headOf
-shows-link t i pieces h = rw (shows-ending t i pieces h, h .out) (go pieces)
-  where
-    go : (l : List ℕ) → cond (nonempty l) (headOf l + 1) 0 ≡ linkTo l
-    go [] = refl
-    go (p ∷ l) = refl
+unfolding firstLinkIn
+shows-link t i pieces h = rw (shows-ending t i pieces h, h .out) (link-head pieces)
 
 -- ── Stores ──
 

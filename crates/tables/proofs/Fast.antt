@@ -25,7 +25,7 @@ use Rattle.tables.specs.Reads.{infoIn, denseIn, columnIn, cellIn, depthI
 use Rattle.tables.proofs.Fits.{fits}
 use Rattle.tables.proofs.Parts.{field-at, byte-at}
 use Rattle.tables.proofs.Classes.{absent-empty, class-byte, class-occurs, class-absent, cells-room, cell-inside}
-use Rattle.tables.proofs.Fields.{up-to, info-laid}
+use Rattle.tables.proofs.Fields.{upTo-below, info-laid}
 
 -- A place in rows of d: the quotient and the remainder.
 pub row-of : (d c u : ℕ) → u < d → ((d * c + u) / d ≡ c) × ((d * c + u) % d ≡ u)
@@ -117,12 +117,12 @@ module _ (book : Book) (within : Within book) where
     cell-laid u a l h =
         let j : ℕ = denseCount book * classOf book a + u in
         field-at t (tablesLayout book) laid 16 0 j (omega (arith, cell-inside book u a l h, cells-room book)) _ (omega (arith, column-laid a h))
-        ∙ up-to (denseCount book * classCount book) (cellOf book) j (cell-inside book u a l h)
+        ∙ upTo-below (denseCount book * classCount book) (cellOf book) j (cell-inside book u a l h)
         ∙ cell-next u a l h
 
     pub depth-laid : (i : ℕ) → i < stateCount book → depthIn t i ≡ depthOf book i
     unfolding tablesLayout entryLength
-    depth-laid i inside = byte-at t (tablesLayout book) laid 10 0 i (omega (arith, fits book within .states)) _ (omega arith) refl ∙ up-to (stateCount book) (depthOf book) i inside
+    depth-laid i inside = byte-at t (tablesLayout book) laid 10 0 i (omega (arith, fits book within .states)) _ (omega arith) refl ∙ upTo-below (stateCount book) (depthOf book) i inside
 
     pub gain-laid : (i : ℕ) → i < stateCount book → gainIn t i ≡ gainOf book i
     unfolding infoOf endingMark

@@ -25,6 +25,12 @@ use Rattle.tables.proofs.Chains.{leads-same, endings-lead, chain-list}
 use Rattle.tables.proofs.Fields.{info-laid, out-laid, fail-laid, link-laid, ends-laid}
 use Rattle.tables.proofs.Fast.{gain-few}
 
+-- A link to a list is one more than its first piece, if it has one.
+pub link-head : (l : List ℕ) → cond (nonempty l) (headOf l + 1) 0 ≡ linkTo l
+unfolding nonempty headOf linkTo
+link-head [] = refl
+link-head (p ∷ l) = refl
+
 -- Whatever comes behind, a link leads to a piece of the list.
 link-below : (n p : ℕ) (l : List ℕ) → ((q : ℕ) → List·Memᴰ q l → q < n) → linkTo (behind p l) ≤ n
 unfolding linkTo behind
@@ -69,12 +75,8 @@ module _ (book : Book) (within : Within book) (t : List ℕ) (laid : Laid (table
         go false gain few = lt-leb 128 (gain + 0) (omega arith)
 
     pub first-link-laid : firstLinkIn t i ≡ linkTo (endings book (stateAt book i))
-    unfolding firstLinkIn outOf nonempty headOf linkTo
-    first-link-laid = ap₂ (λ (v : Bool) (o : ℕ). cond v (o + 1) 0) ending-laid (out-laid book within t laid i inside) ∙ go (endings book (stateAt book i))
-      where
-        go : (l : List ℕ) → cond (nonempty l) (headOf l + 1) 0 ≡ linkTo l
-        go [] = refl
-        go (p ∷ l) = refl
+    unfolding firstLinkIn outOf
+    first-link-laid = ap₂ (λ (v : Bool) (o : ℕ). cond v (o + 1) 0) ending-laid (out-laid book within t laid i inside) ∙ link-head (endings book (stateAt book i))
 
   module _ (p : ℕ) (inside : p < spotCount book) where
     pub onward-laid : onwardIn t p ≡ linkOf book p

@@ -7,9 +7,10 @@ use mathlib.Core.List.{List, []}
 use Prim.Native.Nat.{ℕ, zero, suc, _≤_, _<_}
 use native.Mathlib.Omega.{arith}
 use lib.Dec.{leb}
-use lib.ListN.{length, getD}
+use lib.ListN.{length}
 use borrow.Author.Tests.{leb-true, le-leb, lt-leb, eqb-true, eq-eqb, ne-eqb}
 use Rattle.lent.specs.Numbers.{numberAt}
+use Rattle.lent.specs.Zeros.{Zero}
 use Rattle.meaning.specs.Books.{Book}
 use Rattle.meaning.specs.Automaton.{isState}
 use Rattle.meaning.proofs.Truth.{both, untrue}
@@ -138,6 +139,6 @@ module _ (book : Book) (within : Within book) where
   })
 
 -- Memory that is zero up to the published size does not pass.
-pub zero-fails : (t : List ℕ) → ((k : ℕ) → k < tablesSize → getD t k 0 ≡ 0) → tablesPass t ≡ false
+pub zero-fails : (t : List ℕ) → Zero 0 tablesSize t → tablesPass t ≡ false
 unfolding tablesSize tablesTag
-zero-fails t zeros = untrue (tablesPass t) (λ h. omega (arith, pass-iff t .0 h .tag, number-zero 8 t tagAt (λ k a b. zeros k (omega arith))))
+zero-fails t zeros = untrue (tablesPass t) (λ h. omega (arith, pass-iff t .0 h .tag, number-zero 8 t tagAt (λ k a b. zeros k (omega arith) (omega arith))))
