@@ -9,11 +9,12 @@ use lib.ListN.{getD}
 use types.Run.{OneOf}
 use denote.Enum.Declared.{tagOf}
 use borrow.Author.Tests.{lt-ltb, le-ltb, not-true, not-false}
+use Rattle.meaning.specs.Matching.{bytesAfter}
 use Rattle.format.specs.Prefixes.{mostShared}
 use Rattle.format.specs.Limits.{mostPrefixes}
 use Rattle.records.specs.declared.refusals.Refusal.the-variants.{Kind, Full}
 use Rattle.records.specs.declared.records.Found.{Found}
-use Rattle.records.specs.Prefixes.{bytesFrom, keywordsBefore}
+use Rattle.records.specs.Prefixes.{keywordsBefore}
 use Rattle.book.specs.declared.progress.Stage.{Stage}
 use Rattle.book.specs.declared.progress.Stage.the-variants.{Start, Headed, Named, Gapped, Worded, Ended}
 use Rattle.book.specs.declared.progress.Tally.{Tally}
@@ -42,7 +43,7 @@ not-ended Ended is = absurd (other is)
 
 -- ── A keyword ──
 
-module _ (bytes : List ℕ) (tally : Tally) (start count at : ℕ) {shared : ℕ} (is : shared ≡ mostShared (keywordsBefore bytes at) (bytesFrom start count bytes)) where
+module _ (bytes : List ℕ) (tally : Tally) (start count at : ℕ) {shared : ℕ} (is : shared ≡ mostShared (keywordsBefore bytes at) (bytesAfter start count bytes)) where
   with-new : prefixesWith bytes tally start count at ≡ tally .prefixes + (count - shared)
   unfolding prefixesWith
   with-new = ap (λ (n : ℕ). tally .prefixes + (count - n)) (sym is)

@@ -10,6 +10,7 @@ use lib.Dec.{leb, ltb, eqb}
 use lib.ListN.{length, take, getD}
 use borrow.Author.Tests.{le-ltb}
 use Rattle.meaning.specs.Books.{Gap, Phrase, keywords}
+use Rattle.meaning.specs.Matching.{bytesAfter}
 use Rattle.format.specs.Refusals.{Refusal, field, crossed, order, many, total, full}
 use Rattle.format.specs.Prefixes.{prefixCount}
 use Rattle.format.specs.Limits.{theEdition, mostNumber, mostRights, mostLeast, mostMost, mostPhrases, mostPrefixes}
@@ -23,7 +24,7 @@ use Rattle.format.proofs.Bodies.{keyword-length, noRoom}
 use Rattle.format.proofs.FirstFault as faults
 use Rattle.counters.specs.Counters.{numberOf}
 use Rattle.records.specs.Refusals.{refusalFor}
-use Rattle.records.specs.Prefixes.{bytesFrom, keywordsBefore}
+use Rattle.records.specs.Prefixes.{keywordsBefore}
 use Rattle.book.specs.declared.progress.Turn.the-variants.{Refused}
 use Rattle.book.specs.Judging.{headerTurn, phraseTurn, gapTurn, boundedTurn, openTurn, prefixesWith, keywordTurn, endTurn}
 use Rattle.book.specs.Tallies.{nameOf, tallyOf, turnFor}
@@ -117,13 +118,13 @@ unfolding endTurn tallyOf nameOf phrasesAt piecesAt refusalFor turnFor
 end-turn phrases phrase count = rw refuses refl
 
 module _ (at : ℕ) (bytes : List ℕ) (phrases : List Phrase) (phrase : Phrase) (gap : Gap) (before : keywordsBefore bytes at ≡ keywords (phrases ++ phrase ∷ [])) where
-  prefixes-with : (x n : ℕ) → length (bytesFrom x n bytes) ≡ n
-      → prefixesWith bytes (tallyOf (gapped phrases phrase gap)) x n at ≡ prefixCount (keywords (phrases ++ phrase ∷ []) ++ bytesFrom x n bytes ∷ [])
+  prefixes-with : (x n : ℕ) → length (bytesAfter x n bytes) ≡ n
+      → prefixesWith bytes (tallyOf (gapped phrases phrase gap)) x n at ≡ prefixCount (keywords (phrases ++ phrase ∷ []) ++ bytesAfter x n bytes ∷ [])
   unfolding prefixesWith tallyOf phrasesAt
-  prefixes-with x n long = rw before (omega (arith, count-further (keywords (phrases ++ phrase ∷ [])) (bytesFrom x n bytes)))
+  prefixes-with x n long = rw before (omega (arith, count-further (keywords (phrases ++ phrase ∷ [])) (bytesAfter x n bytes)))
 
-  pub keyword-turn : (x n : ℕ) → length (bytesFrom x n bytes) ≡ n → keywordTurn bytes (tallyOf (gapped phrases phrase gap)) x n at
-      ≡ turnFor (cond (ltb mostPrefixes (prefixCount (keywords (phrases ++ phrase ∷ []) ++ bytesFrom x n bytes ∷ []))) (some full) none)
-      (worded phrases (withPiece phrase (record { gap = gap; keyword = bytesFrom x n bytes })))
+  pub keyword-turn : (x n : ℕ) → length (bytesAfter x n bytes) ≡ n → keywordTurn bytes (tallyOf (gapped phrases phrase gap)) x n at
+      ≡ turnFor (cond (ltb mostPrefixes (prefixCount (keywords (phrases ++ phrase ∷ []) ++ bytesAfter x n bytes ∷ []))) (some full) none)
+      (worded phrases (withPiece phrase (record { gap = gap; keyword = bytesAfter x n bytes })))
   unfolding keywordTurn refusalFor turnFor tallyOf nameOf phrasesAt piecesAt
-  keyword-turn x n long = rw (prefixes-with x n long, refuses, worded-tally phrases phrase gap (bytesFrom x n bytes))
+  keyword-turn x n long = rw (prefixes-with x n long, refuses, worded-tally phrases phrase gap (bytesAfter x n bytes))

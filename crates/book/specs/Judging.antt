@@ -5,6 +5,7 @@ use mathlib.Core.List.{List}
 use Prim.Native.Nat.{ℕ, _+_, _-_, _≤_}
 use lib.Dec.{leb, ltb, eqb}
 use lib.ListN.{getD}
+use Rattle.meaning.specs.Matching.{bytesAfter}
 use Rattle.counters.specs.declared.Number.{Number}
 use Rattle.format.specs.Prefixes.{mostShared}
 use Rattle.format.specs.Limits.{theEdition, mostNumber, mostRights, mostLeast, mostMost, mostPhrases, mostPiecesOfPhrase, mostPieces, mostPrefixes}
@@ -13,7 +14,7 @@ use Rattle.format.specs.Faults.{isGap, isKeyword, between}
 use Rattle.records.specs.declared.refusals.Refusal.the-variants.{Cut, Kind, Field, Crossed, Order, Many, Total, Full}
 use Rattle.records.specs.declared.records.Found.{Found}
 use Rattle.records.specs.declared.records.Found.the-variants as found
-use Rattle.records.specs.Prefixes.{bytesFrom, keywordsBefore}
+use Rattle.records.specs.Prefixes.{keywordsBefore}
 use Rattle.book.specs.declared.answers.Judged.{Judged}
 use Rattle.book.specs.declared.answers.Judged.the-variants as judged
 use Rattle.book.specs.declared.progress.Stage.{Stage}
@@ -79,7 +80,7 @@ openTurn tally least = cond (ltb mostLeast least) (Refused Field) (gapTurn tally
 -- How many different prefixes there are with the keyword of so many bytes from an offset on, whose record is at an offset: those
 -- before, and its length less what it shares with an earlier keyword.
 unfoldable pub prefixesWith : List ℕ → Tally → ℕ → ℕ → ℕ → ℕ
-prefixesWith bytes tally start count at = tally .prefixes + (count - mostShared (keywordsBefore bytes at) (bytesFrom start count bytes))
+prefixesWith bytes tally start count at = tally .prefixes + (count - mostShared (keywordsBefore bytes at) (bytesAfter start count bytes))
 
 -- At most 2,047 different nonempty prefixes of keywords. With its keyword a piece is whole, and is counted.
 unfoldable pub keywordTurn : List ℕ → Tally → ℕ → ℕ → ℕ → Turn

@@ -44,7 +44,7 @@ said-once (Refused why at) (Refused other there) e =
 holds-once : (j : Judgement) (s t : List ℕ) → Bytes s → Bytes t → Holds j s → Holds j t → (k : ℕ) → k < tablesSize → getD s k 0 ≡ getD t k 0
 unfolding Holds
 holds-once (accepted book offset) s t p q h i k l = laid-once s t p q (tablesLayout book) tablesSize (tables-tiled book) h i k (omega arith) l
-holds-once (refused why offset) s t p q h i k l = h k l ∙ sym (i k l)
+holds-once (refused why offset) s t p q h i k l = h k (omega arith) l ∙ sym (i k (omega arith) l)
 
 module _ (bytes before : List ℕ) (a b : Built) (s t : List ℕ) (whole : Bytes s) (also : Bytes t) where
   judged-once : Judged bytes before a s → Judged bytes before b t → (a ≡ b) × (s ≡ t)

@@ -68,7 +68,7 @@ module _ (bytes before : List ℕ) (each : Bytes bytes) (large : tablesSize ≤ 
     judgement = refused why offset;
     true-of = true-of;
     says = ap (λ (r : format.Refusal). said (numberOf r) offset) (refusal-said why);
-    holds = blank-zero;
+    holds = λ k a l. blank-zero k l;
     past = blank-past;
     long = blank-long;
   }

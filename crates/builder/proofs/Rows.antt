@@ -7,6 +7,7 @@ use Prim.Native.Nat.{ℕ, _+_, _*_, _≤_, _<_}
 use native.Mathlib.Omega.{arith}
 use lib.ListN.{length, getD}
 use Rattle.lent.specs.Numbers.{numberAt}
+use Rattle.lent.specs.Zeros.{Zero}
 use Rattle.lent.proofs.Numbers.{number-agree}
 use Rattle.meaning.specs.Books.{Book}
 use Rattle.format.specs.Limits.{Within}
@@ -43,7 +44,7 @@ pub record RowsReady (book : Book) (t : List ℕ) : Type 0 where
   pub failures : HoldsFailures book t (stateCount book)
   pub depths : (i : ℕ) → i < roomForStates → depthIn t i ≡ 0
   pub infos : (i : ℕ) → i < roomForStates → infoIn t i ≡ upTo (stateCount book) (endingMark book) i
-  pub cells : (k : ℕ) → rowsAt ≤ k → k < 49152 → getD t k 0 ≡ 0
+  pub cells : Zero rowsAt 49152 t
 
 -- Afterwards their five regions are the layout's, and every other byte is as it was.
 pub record RowsRight (book : Book) (before after : List ℕ) : Type 0 where

@@ -6,7 +6,7 @@ use mathlib.Core.List.{List}
 use Prim.Native.Nat.{ℕ, _≤_, _<_}
 use lib.Dec.{ltb}
 use lib.ListN.{length, getD}
-use Rattle.lent.specs.Zeros.{withZeros}
+use Rattle.lent.specs.Zeros.{Zero, withZeros}
 use Rattle.format.specs.Judged.{Judgement, accepted, refused, judged, Judges}
 use Rattle.records.specs.Refusals.{refusalFor}
 use Rattle.tables.specs.Regions.{Laid}
@@ -44,7 +44,7 @@ buildOf bytes tables = cond (ltb (length tables) tablesSize) (outcome TooSmall t
 -- What the memory holds up to the published size: the tables of the book that was accepted, and else zero.
 unfoldable pub Holds : Judgement → List ℕ → Type 0
 Holds (accepted book offset) after = Laid (tablesLayout book) after
-Holds (refused why offset) after = (k : ℕ) → k < tablesSize → getD after k 0 ≡ 0
+Holds (refused why offset) after = Zero 0 tablesSize after
 
 -- Memory below the published size is refused with 1, at 0, and not touched.
 pub record Untouched (before : List ℕ) (answer : Built) (after : List ℕ) : Type 0 where

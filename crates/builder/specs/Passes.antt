@@ -7,6 +7,7 @@ use Rattle.meaning.specs.Books.{Book}
 use Rattle.format.specs.Limits.{Within}
 use Rattle.format.specs.Judged.{AcceptedAs}
 use Rattle.lent.specs.Numbers.{withNumber}
+use Rattle.lent.specs.Zeros.{Zero}
 use Rattle.numbering.specs.States.{byteValues}
 use Rattle.tables.specs.Layout.{tagAt, statesAt, piecesAt, phrasesAt, markAt, labelAt, pieceAt, rowsAt, roomForStates, roomForPieces, tablesTag, markFrom}
 use Rattle.tables.specs.Reads.{Whole}
@@ -14,7 +15,6 @@ use Rattle.survey.specs.Turns.{Notes, noted, Reading}
 use Rattle.survey.specs.Survey.{surveyed}
 use Rattle.filling.specs.Keywords.{Gives}
 use Rattle.filling.specs.Turns.{Progress, numbered, closed}
-use Rattle.filling.specs.Filled.{Zero}
 use Rattle.linking.specs.Failures.{linked}
 use Rattle.linking.specs.Keywords.{keywordStates}
 use Rattle.endings.specs.Filled.{filled}

@@ -20,7 +20,7 @@ use Rattle.tables.specs.Layout.{columnAt, rowsAt, roomForStates, roomForCells, 
 use Rattle.tables.specs.Reads.{columnIn, cellIn}
 use Rattle.tables.proofs.Parts.{number-zero}
 use Rattle.tables.proofs.Fits.{fits}
-use Rattle.tables.proofs.Fields.{up-to, up-past}
+use Rattle.tables.proofs.Fields.{upTo-below, upTo-past}
 use Rattle.tables.proofs.Classes.{class-occurs, class-absent, class-once, class-below, byte-class, cells-room, dense-range}
 use Rattle.tables.proofs.Fast.{next-class}
 use Rattle.stepping.proofs.Kept.{states-kept, failures-kept}
@@ -193,12 +193,12 @@ module _ (book : Book) (within : Within book) (before : List ℕ) (ready : Ready
           let class : j / dense < classCount book = div-lt-iff-lt-mul some .1 (omega (arith, mul-comm dense (classCount book))) in
           ap (λ i. numberAt 2 after (rowsAt + 2 * i)) (sym (div-add-mod j dense))
           ∙ cell-is (j / dense) (j % dense) class (mod-lt j some) ∙ cell-of j
-          ∙ sym (up-to (dense * classCount book) (cellOf book) j k)
+          ∙ sym (upTo-below (dense * classCount book) (cellOf book) j k)
 
       behind : (j : ℕ) → j < roomForCells → dense * classCount book ≤ j → numberAt 2 after (rowsAt + 2 * j) ≡ upTo (dense * classCount book) (cellOf book) j
       behind j l k =
           number-zero 2 after (rowsAt + 2 * j) (λ i a b. rowed .kept i (inr (omega arith)) ∙ ready .zeros i (omega arith) (omega arith))
-          ∙ sym (up-past (dense * classCount book) (cellOf book) j k)
+          ∙ sym (upTo-past (dense * classCount book) (cellOf book) j k)
 
       kept : (k : ℕ) → (k < rowsAt) ⊎ (49152 ≤ k) → getD after k 0 ≡ getD before k 0
       kept k (inl e) = rowed .kept k (inl (omega arith))

@@ -6,6 +6,7 @@ use Prim.Native.Nat.{ℕ, _+_, _*_, _≤_, _<_}
 use lib.ListN.{length, getD}
 use Rattle.meaning.specs.Books.{Book}
 use Rattle.lent.specs.Numbers.{numberAt}
+use Rattle.lent.specs.Zeros.{Zero}
 use Rattle.numbering.specs.States.{byteValues, stateCount}
 use Rattle.tables.specs.Classes.{classCount}
 use Rattle.tables.specs.Layout.{rowsAt, roomForCells, upTo, denseCount, columnOf, cellOf}
@@ -18,7 +19,7 @@ pub record Ready (book : Book) (t : List ℕ) : Type 0 where
   pub states : HoldsStates book t
   pub failures : HoldsFailures book t (stateCount book)
   pub columns : (byte : ℕ) → byte < byteValues → columnIn t byte ≡ columnOf book byte
-  pub zeros : (k : ℕ) → rowsAt ≤ k → k < 49152 → getD t k 0 ≡ 0
+  pub zeros : Zero rowsAt 49152 t
 
 -- Afterwards: the rows are those of the layout, in every cell, and every other byte is as it was.
 pub record Right (book : Book) (before after : List ℕ) : Type 0 where

@@ -11,14 +11,14 @@ use native.Mathlib.Omega.{arith}
 use lib.ListN.{length, getD, length-set}
 use lib.Seq.{getD-set-same, getD-set-other}
 use Rattle.meaning.specs.Books.{Book, keywords}
-use Rattle.meaning.specs.Automaton.{isState, depth, parent}
+use Rattle.meaning.specs.Automaton.{isState, depth, parent, nonempty}
 use Rattle.meaning.proofs.Depth.{parent-snoc}
 use Rattle.format.specs.Limits.{All, Bytes, Within}
 use Rattle.numbering.specs.States.{stateCount, stateAt, firstChild, ChildOf, lastByte}
 use Rattle.numbering.proofs.Keywords.{within-bytes}
 use Rattle.numbering.proofs.States.{count-some, stateAt-empty}
 use Rattle.numbering.proofs.Children.{firstChild-root, firstChild-end, firstChild-next, firstChild-inside, child-inside, child-snoc}
-use Rattle.tables.specs.Endings.{someIn, endings}
+use Rattle.tables.specs.Endings.{endings}
 use Rattle.tables.specs.Layout.{infoAt, depthAt, roomForStates, depthOf, gainOf, endingMark, infoOf}
 use Rattle.tables.specs.Reads.{Whole, infoIn, depthIn, firstChildIn}
 use Rattle.tables.proofs.Fits.{fits}
@@ -31,7 +31,7 @@ use Rattle.depths.specs.Depths.{infoFor, withGain, withGains, withGainsO
 
 mark-small : (book : Book) (i : ℕ) → endingMark book i ≤ 128
 unfolding endingMark
-mark-small book i = go (someIn (endings book (stateAt book i)))
+mark-small book i = go (nonempty (endings book (stateAt book i)))
   where
     go : (v : Bool) → cond {A = ℕ} v 128 0 ≤ 128
     go true = omega arith

@@ -13,7 +13,7 @@ use Rattle.numbering.proofs.States.{count-some}
 use Rattle.tables.specs.Layout.{infoAt, outAt, depthAt, labelAt, roomForStates, upTo, depthOf, endingMark, infoOf}
 use Rattle.tables.specs.Reads.{infoIn, depthIn}
 use Rattle.tables.proofs.Fits.{fits}
-use Rattle.tables.proofs.Fields.{up-to, up-past}
+use Rattle.tables.proofs.Fields.{upTo-below, upTo-past}
 use Rattle.stepping.proofs.Kept.{states-kept}
 use Rattle.depths.specs.Depths.{withDepths, withGain, withGainsBelow, filled}
 use Rattle.depths.specs.Right.{Ready, Right}
@@ -36,7 +36,7 @@ module _ (book : Book) (within : Within book) (before : List ℕ) (ready : Ready
     states = states-kept book (fits book within .states) before deep (λ k a b. deepened .kept k (inr (omega (arith, fits book within .states)))) (ready .states);
     depths = deepened .depths;
     infos = λ i l. deepened .kept (infoAt + i) (inl (omega (arith, fits book within .states))) ∙ ready .infos i (omega (arith, fits book within .states))
-        ∙ up-to (stateCount book) (endingMark book) i l;
+        ∙ upTo-below (stateCount book) (endingMark book) i l;
   }
 
   gained : Gained book within deep marked (stateCount book) after
@@ -49,16 +49,16 @@ module _ (book : Book) (within : Within book) (before : List ℕ) (ready : Ready
     where
       depths : (i : ℕ) → i < roomForStates → depthIn after i ≡ upTo (stateCount book) (depthOf book) i
       depths i l = gained .kept (depthAt + i) (inr (omega (arith, fits book within .states))) ∙ ⊎-elim
-          (λ (k : i < stateCount book). deepened .depths i k ∙ sym (up-to (stateCount book) (depthOf book) i k))
-          (λ (k : stateCount book ≤ i). deepened .kept (depthAt + i) (inr (omega arith)) ∙ ready .depths i l ∙ sym (up-past (stateCount book) (depthOf book) i k))
+          (λ (k : i < stateCount book). deepened .depths i k ∙ sym (upTo-below (stateCount book) (depthOf book) i k))
+          (λ (k : stateCount book ≤ i). deepened .kept (depthAt + i) (inr (omega arith)) ∙ ready .depths i l ∙ sym (upTo-past (stateCount book) (depthOf book) i k))
           (lt-or-le i (stateCount book))
 
       infos : (i : ℕ) → i < roomForStates → infoIn after i ≡ upTo (stateCount book) (infoOf book) i
       infos i l = ⊎-elim
-          (λ (k : i < stateCount book). gained .infos i k ∙ sym (up-to (stateCount book) (infoOf book) i k))
+          (λ (k : i < stateCount book). gained .infos i k ∙ sym (upTo-below (stateCount book) (infoOf book) i k))
           (λ (k : stateCount book ≤ i).
           gained .kept (infoAt + i) (inr (omega arith)) ∙ deepened .kept (infoAt + i) (inl (omega arith)) ∙ ready .infos i l
-          ∙ up-past (stateCount book) (endingMark book) i k ∙ sym (up-past (stateCount book) (infoOf book) i k))
+          ∙ upTo-past (stateCount book) (endingMark book) i k ∙ sym (upTo-past (stateCount book) (infoOf book) i k))
           (lt-or-le i (stateCount book))
 
       kept : (k : ℕ) → (k < infoAt) ⊎ (((outAt ≤ k) × (k < depthAt)) ⊎ (labelAt ≤ k)) → getD after k 0 ≡ getD before k 0

@@ -10,14 +10,14 @@ use native.Mathlib.Omega.{arith}
 use lib.ListN.{getD}
 use Rattle.lent.proofs.Cases.{eq-or-ne}
 use Rattle.meaning.specs.Books.{Book}
-use Rattle.meaning.specs.Automaton.{isState, failure}
+use Rattle.meaning.specs.Automaton.{isState, failure, nonempty}
 use Rattle.format.specs.Limits.{Within}
 use Rattle.numbering.specs.States.{stateCount, stateAt, failureIn}
 use Rattle.numbering.proofs.Keywords.{within-bytes}
 use Rattle.numbering.proofs.States.{stateAt-empty}
 use Rattle.numbering.proofs.Steps.{failureIn-string, failureIn-smaller}
 use Rattle.tables.specs.Spots.{spotsOf}
-use Rattle.tables.specs.Endings.{piecesWith, endings, headOf, someIn}
+use Rattle.tables.specs.Endings.{piecesWith, endings, headOf}
 use Rattle.tables.specs.Layout.{roomForStates}
 use Rattle.tables.specs.Reads.{failIn, endingIn, backIn}
 use Rattle.tables.proofs.Fits.{fits}
@@ -31,13 +31,13 @@ use Rattle.endings.proofs.Views.{shows-ending, length-ending, ending-ne
 use Rattle.endings.proofs.Own.{own-all}
 
 -- A list that has an element shows the same where others follow.
-shows-more : (t : List ℕ) (i : ℕ) (l r : List ℕ) → someIn l ≡ true → Shows t i l → Shows t i (l ++ r)
-unfolding someIn headOf
+shows-more : (t : List ℕ) (i : ℕ) (l r : List ℕ) → nonempty l ≡ true → Shows t i l → Shows t i (l ++ r)
+unfolding nonempty headOf
 shows-more t i [] r e h = absurd (false≢true e)
 shows-more t i (p ∷ l) r e h = record { info = h .info; out = h .out }
 
-none-there : (l : List ℕ) → someIn l ≡ false → l ≡ []
-unfolding someIn
+none-there : (l : List ℕ) → nonempty l ≡ false → l ≡ []
+unfolding nonempty
 none-there [] e = refl
 none-there (p ∷ l) e = absurd (false≢true (sym e))
 
@@ -65,7 +65,7 @@ module _ (book : Book) (within : Within book) where
     -- With a piece of its own the state shows what ends in it already.
     shows-own : endingIn t c ≡ true → Shows t c (endings book u)
     shows-own e =
-        let some : someIn (piecesWith u 0 (spotsOf book)) ≡ true = sym (shows-ending t c (piecesWith u 0 (spotsOf book)) own) ∙ e in
+        let some : nonempty (piecesWith u 0 (spotsOf book)) ≡ true = sym (shows-ending t c (piecesWith u 0 (spotsOf book)) own) ∙ e in
         rw split (shows-more t c (piecesWith u 0 (spotsOf book)) (endings book (failure (isState book) u)) some own)
 
     -- Without one, its failure does.

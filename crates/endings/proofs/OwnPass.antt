@@ -8,10 +8,11 @@ use native.Mathlib.Omega.{arith}
 use lib.ListN.{getD}
 use Rattle.lent.proofs.Cases.{eq-or-ne}
 use Rattle.meaning.specs.Books.{Book}
+use Rattle.meaning.specs.Automaton.{nonempty}
 use Rattle.format.specs.Limits.{Within}
 use Rattle.numbering.specs.States.{stateAt, numberIn}
 use Rattle.tables.specs.Spots.{spotCount}
-use Rattle.tables.specs.Endings.{keywordOf, linkTo, headOf, someIn}
+use Rattle.tables.specs.Endings.{keywordOf, linkTo, headOf}
 use Rattle.tables.specs.Layout.{roomForStates, roomForPieces}
 use Rattle.tables.specs.Reads.{Whole, linkIn, firstLinkIn}
 use Rattle.tables.proofs.Fits.{fits}
@@ -48,7 +49,7 @@ module _ (book : Book) (within : Within book) (at : List ℕ) (states : (p : ℕ
     whole = omega (arith, length-link t (h .whole) p room link, h .whole)
 
     pub first-owned : Owned book p (withFirst t (getD at p 0) p)
-    unfolding withFirst laterOf headOf someIn
+    unfolding withFirst laterOf headOf nonempty
     first-owned = record {
       whole = omega (arith, length-ending linked whole i here p 128, whole);
       shows = λ j l. ⊎-elim (λ e. new j e) (λ ne. other j l ne) (eq-or-ne j i);
@@ -91,7 +92,7 @@ module _ (book : Book) (within : Within book) (at : List ℕ) (states : (p : ℕ
 
 -- Before the first turn no piece has been put.
 pub ready-owned : (book : Book) (at t : List ℕ) → Ready book at t → Owned book (spotCount book) t
-unfolding laterOf linkTo headOf someIn
+unfolding laterOf linkTo headOf nonempty
 ready-owned book at t h = record {
   whole = h .whole;
   shows = λ i l. rw (own-end book (stateAt book i) (spotCount book) (omega arith)) (record { info = h .infos i l; out = h .outs i l });

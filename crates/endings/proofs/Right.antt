@@ -6,17 +6,17 @@ use mathlib.Core.List.{List, [], append-nil}
 use Prim.Native.Nat.{ℕ, _+_, _≤_, _<_}
 use native.Mathlib.Omega.{arith}
 use lib.ListN.{getD, List·getD-eq-default}
-use borrow.Author.Tests.{lt-ltb, le-ltb}
 use Rattle.lent.proofs.Cases.{lt-or-le}
 use Rattle.meaning.specs.Books.{Book}
-use Rattle.meaning.specs.Automaton.{suffixes}
+use Rattle.meaning.specs.Automaton.{suffixes, nonempty}
 use Rattle.format.specs.Limits.{Within}
 use Rattle.numbering.specs.States.{stateCount, stateAt}
 use Rattle.tables.specs.Spots.{Spot, spotsOf, noSpot, spotAt, spotCount}
-use Rattle.tables.specs.Endings.{piecesWith, piecesWithEach, endings, keywordOf, behind, linkTo, headOf, someIn, linkOf}
+use Rattle.tables.specs.Endings.{piecesWith, piecesWithEach, endings, keywordOf, behind, linkTo, headOf, linkOf}
 use Rattle.tables.specs.Layout.{roomForStates, roomForPieces, upTo, endingMark, outOf}
 use Rattle.tables.specs.Reads.{linkIn}
 use Rattle.tables.proofs.Fits.{fits}
+use Rattle.tables.proofs.Fields.{upTo-below, upTo-past}
 use Rattle.tables.proofs.Endings.{endings-empty}
 use Rattle.endings.specs.Filled.{ownBelow, inheritedBelow, filled}
 use Rattle.endings.specs.Right.{Ready, Right, Elsewhere}
@@ -30,8 +30,7 @@ use Rattle.endings.proofs.LinkPass.{link-pass}
 
 -- Where the entries past a count are 0 anyway, it makes no difference that the layout says so.
 up-to : (count : ℕ) (value : ℕ → ℕ) → ((j : ℕ) → count ≤ j → value j ≡ 0) → (j : ℕ) → value j ≡ upTo count value j
-unfolding upTo
-up-to count value none j = ⊎-elim (λ l. rw (lt-ltb j count l)) (λ l. rw (le-ltb j count l) (none j l)) (lt-or-le j count)
+up-to count value none j = ⊎-elim (λ l. sym (upTo-below count value j l)) (λ l. none j l ∙ sym (upTo-past count value j l)) (lt-or-le j count)
 
 module _ (book : Book) (within : Within book) where
   no-ending : (i : ℕ) → stateCount book ≤ i → endings book (stateAt book i) ≡ []
@@ -92,7 +91,7 @@ module _ (book : Book) (within : Within book) where
 
     -- Afterwards info, out and the links are those of the layout.
     pub filled-right : Right book (filled at (stateCount book) (spotCount book) t)
-    unfolding endingMark outOf someIn headOf laterOf linkTo
+    unfolding endingMark outOf nonempty headOf laterOf linkTo
     filled-right = record {
       infos = λ i l. link-right .0 .shows i l .info ∙ up-to (stateCount book) (endingMark book) (λ j a. rw (no-ending j a)) i;
       outs = λ i l. link-right .0 .shows i l .out ∙ up-to (stateCount book) (outOf book) (λ j a. rw (no-ending j a)) i;

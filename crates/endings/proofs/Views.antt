@@ -2,7 +2,7 @@
 use mathlib.Core.Path.{_≡_, refl, _∙_}
 use mathlib.Core.Logic.{_⊎_, inl, inr, ⊎-elim}
 use mathlib.Core.Bool.{Bool, true, false, cond}
-use mathlib.Core.List.{List, [], _∷_}
+use mathlib.Core.List.{List}
 use Prim.Native.Nat.{ℕ, _+_, _*_, _≤_, _<_}
 use native.Mathlib.Omega.{arith}
 use lib.Dec.{leb}
@@ -11,30 +11,28 @@ use lib.Seq.{getD-set-same, getD-set-other}
 use Rattle.lent.specs.Numbers.{Apart}
 use Rattle.lent.proofs.Cases.{lt-or-le}
 use Rattle.lent.proofs.Numbers.{length-withNumber, number-written, number-byte-apart, number-apart, number-agree}
-use Rattle.tables.specs.Endings.{linkTo, headOf, someIn}
+use Rattle.meaning.specs.Automaton.{nonempty}
+use Rattle.tables.specs.Endings.{linkTo, headOf}
 use Rattle.tables.specs.Layout.{infoAt, outAt, failAt, pieceAt, roomForStates, roomForPieces}
 use Rattle.tables.specs.Reads.{Whole, linkIn, failIn, endingIn, firstLinkIn}
+use Rattle.tables.proofs.Meant.{link-head}
 use Rattle.endings.specs.Filled.{withEnding, withLink}
 use Rattle.endings.specs.Right.{Elsewhere}
 use Rattle.endings.specs.Progress.{Shows}
 
 -- ── A state's endings ──
 
-pub shows-ending : (t : List ℕ) (i : ℕ) (pieces : List ℕ) → Shows t i pieces → endingIn t i ≡ someIn pieces
+pub shows-ending : (t : List ℕ) (i : ℕ) (pieces : List ℕ) → Shows t i pieces → endingIn t i ≡ nonempty pieces
 unfolding endingIn
-shows-ending t i pieces h = rw (h .info) (go (someIn pieces))
+shows-ending t i pieces h = rw (h .info) (go (nonempty pieces))
   where
     go : (v : Bool) → leb 128 (cond v 128 0) ≡ v
     go true = refl
     go false = refl
 
 pub shows-link : (t : List ℕ) (i : ℕ) (pieces : List ℕ) → Shows t i pieces → firstLinkIn t i ≡ linkTo pieces
-unfolding firstLinkIn linkTo someIn headOf
-shows-link t i pieces h = rw (shows-ending t i pieces h, h .out) (go pieces)
-  where
-    go : (l : List ℕ) → cond (someIn l) (headOf l + 1) 0 ≡ linkTo l
-    go [] = refl
-    go (p ∷ l) = refl
+unfolding firstLinkIn
+shows-link t i pieces h = rw (shows-ending t i pieces h, h .out) (link-head pieces)
 
 -- ── Stores ──
 
@@ -44,7 +42,7 @@ module _ (t : List ℕ) (whole : Whole t) where
     unfolding withEnding
     length-ending = simp length-set
 
-    pub ending-new : (pieces : List ℕ) → out ≡ headOf pieces → info ≡ cond (someIn pieces) 128 0 → Shows (withEnding t i out info) i pieces
+    pub ending-new : (pieces : List ℕ) → out ≡ headOf pieces → info ≡ cond (nonempty pieces) 128 0 → Shows (withEnding t i out info) i pieces
     unfolding withEnding
     ending-new pieces o v = record {
       info = getD-set-same (set t (outAt + i) out) (infoAt + i) info 0 (simp length-set (omega arith)) ∙ v;

@@ -5,15 +5,16 @@ use mathlib.Core.List.{List}
 use Prim.Native.Nat.{ℕ, _+_, _≤_, _<_}
 use lib.ListN.{drop}
 use Rattle.meaning.specs.Books.{Book}
+use Rattle.meaning.specs.Automaton.{nonempty}
 use Rattle.numbering.specs.States.{stateCount, stateAt, failureIn}
 use Rattle.tables.specs.Spots.{spotsOf}
-use Rattle.tables.specs.Endings.{piecesWith, endings, keywordOf, linkTo, headOf, someIn, linkOf}
+use Rattle.tables.specs.Endings.{piecesWith, endings, keywordOf, linkTo, headOf, linkOf}
 use Rattle.tables.specs.Layout.{roomForStates, roomForPieces}
 use Rattle.tables.specs.Reads.{Whole, infoIn, outIn, linkIn, failIn}
 
 -- What is read of state i says that these pieces end in it: whether there is one, and the first.
 pub record Shows (t : List ℕ) (i : ℕ) (pieces : List ℕ) : Type 0 where
-  pub info : infoIn t i ≡ cond (someIn pieces) 128 0
+  pub info : infoIn t i ≡ cond (nonempty pieces) 128 0
   pub out : outIn t i ≡ headOf pieces
 
 -- The pieces from p on whose keyword is this one.

@@ -4,8 +4,8 @@ use mathlib.Core.List.{List, [], _∷_}
 use Prim.Native.Nat.{ℕ, _+_, _-_}
 use lib.Dec.{ltb}
 use lib.ListN.{drop}
-use Rattle.tables.specs.Reads.{stateCountIn, denseIn, phraseCountIn, depthIn, gainIn}
-use Rattle.seeking.specs.Quick.{quickIn}
+use Rattle.tables.specs.Reads.{phraseCountIn, depthIn, gainIn}
+use Rattle.seeking.specs.Quick.{quickNext}
 use Rattle.window.specs.Happened.{Here, happened}
 use Rattle.gliding.specs.declared.Way.{Way}
 use Rattle.feeding.specs.declared.Progress.{Progress}
@@ -49,7 +49,7 @@ atStart state place memory room = record {
 -- One byte: it leads to the next state, and at the next place happens what the state says.
 unfoldable pub byteTaken : List ℕ → Run → ℕ → Run
 byteTaken t run byte =
-    let next : ℕ = quickIn t (stateCountIn t) (denseIn t) (run .state) byte in
+    let next : ℕ = quickNext t (run .state) byte in
     record {
       state = next;
       place = run .place + 1;

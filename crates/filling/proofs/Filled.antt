@@ -6,12 +6,12 @@ use mathlib.Core.List.{List}
 use Prim.Native.Nat.{ℕ, zero, suc, _+_, _*_, _≤_, _<_}
 use native.Mathlib.Omega.{arith}
 use lib.ListN.{getD}
-use borrow.Author.Tests.{lt-ltb, le-ltb}
 use Rattle.meaning.specs.Books.{Book, keywords}
 use Rattle.meaning.specs.Automaton.{isState}
 use Rattle.format.specs.Limits as limits
 use Rattle.format.specs.Limits.{All}
 use Rattle.format.specs.Prefixes.{prefixCount}
+use Rattle.lent.specs.Zeros.{Zero}
 use Rattle.lent.proofs.Cases.{lt-or-le}
 use Rattle.numbering.specs.Listed.{listed}
 use Rattle.numbering.specs.States.{byteValues, statesOf, stateCount, stateAt, firstChild, lastByte}
@@ -21,21 +21,14 @@ use Rattle.numbering.proofs.Children.{firstChild-end}
 use Rattle.tables.specs.Layout.{labelAt, failAt, childAt, pieceAt, roomForStates, upTo, labelOf}
 use Rattle.tables.specs.Reads.{Whole, labelIn, firstChildIn}
 use Rattle.tables.proofs.Parts.{number-zero}
+use Rattle.tables.proofs.Fields.{upTo-below, upTo-past}
 use Rattle.filling.specs.Keywords.{Gives}
 use Rattle.filling.specs.Turns.{Progress, withFirst, afterTurns, numbered, closed}
-use Rattle.filling.specs.Filled.{Zero, StatesFilled}
+use Rattle.filling.specs.Filled.{StatesFilled}
 use Rattle.filling.proofs.Given.{given-bytes}
 use Rattle.filling.proofs.Held.{Held, held-first}
 use Rattle.filling.proofs.Numbered.{after-holds}
 use Rattle.filling.proofs.Going.{after-end}
-
-pub upTo-below : (count : ℕ) (value : ℕ → ℕ) (j : ℕ) → j < count → upTo count value j ≡ value j
-unfolding upTo
-upTo-below count value j l = rw (lt-ltb j count l)
-
-pub upTo-past : (count : ℕ) (value : ℕ → ℕ) (j : ℕ) → count ≤ j → upTo count value j ≡ 0
-unfolding upTo
-upTo-past count value j l = rw (le-ltb j count l)
 
 module _ (text offsets lengths : List ℕ) (many : ℕ) (book : Book) (gives : Gives text offsets lengths many book)
     (room : stateCount book ≤ roomForStates) (tables : List ℕ) (size : Whole tables) where

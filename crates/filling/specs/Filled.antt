@@ -10,10 +10,6 @@ use Rattle.numbering.specs.States.{stateCount, firstChild}
 use Rattle.tables.specs.Layout.{labelAt, failAt, childAt, pieceAt, roomForStates, upTo, labelOf}
 use Rattle.tables.specs.Reads.{labelIn, firstChildIn}
 
--- The bytes from a place on, up to another, are zero.
-abbrev pub Zero : ℕ → ℕ → List ℕ → Type 0
-Zero from end t = (k : ℕ) → from ≤ k → k < end → getD t k 0 ≡ 0
-
 pub record StatesFilled (book : Book) (before after : List ℕ) : Type 0 where
   pub labels : (j : ℕ) → j < roomForStates → labelIn after j ≡ upTo (stateCount book) (labelOf book) j
   pub children : (j : ℕ) → j ≤ roomForStates → firstChildIn after j ≡ upTo (stateCount book + 1) (firstChild book) j

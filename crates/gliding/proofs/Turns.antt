@@ -9,7 +9,7 @@ use native.Mathlib.Numerals.{add-one}
 use native.Mathlib.Omega.{arith}
 use lib.ListN.{length, getD, drop}
 use lib.Seq.{drop-cons, drop-length}
-use borrow.Author.Tests.{lt-ltb, le-ltb}
+use borrow.Author.Tests.{not-true, not-false}
 use Rattle.lent.proofs.Cases.{lt-or-le}
 use Rattle.tables.specs.Reads.{stateCountIn, denseIn, gainIn}
 use Rattle.seeking.specs.Quick.{soughtIn, quickIn}
@@ -77,19 +77,11 @@ module _ (t m : List ℕ) (gone : Gone) (byte : ℕ) where
 
   pub on-goes : oneOn t m gone byte .event ≡ false → goesOn t m gone byte ≡ true
   unfolding oneOn
-  on-goes e = un-not (goesOn t m gone byte) e
-    where
-      un-not : (v : Bool) → not v ≡ false → v ≡ true
-      un-not true h = refl
-      un-not false h = absurd (false≢true (sym h))
+  on-goes e = not-false (goesOn t m gone byte) e
 
   pub glide-stops : (rest : List ℕ) → oneOn t m gone byte .event ≡ true → glideIn t m (byte ∷ rest) gone ≡ oneOn t m gone byte
   unfolding glideIn oneOn
-  glide-stops rest e = rw (un-not (goesOn t m gone byte) e)
-    where
-      un-not : (v : Bool) → not v ≡ true → v ≡ false
-      un-not true h = absurd (false≢true h)
-      un-not false h = refl
+  glide-stops rest e = rw (not-true (goesOn t m gone byte) e)
 
   pub glide-on : (rest : List ℕ) → oneOn t m gone byte .event ≡ false → glideIn t m (byte ∷ rest) gone ≡ glideIn t m rest (oneOn t m gone byte .gone)
   unfolding glideIn oneOn

@@ -9,7 +9,7 @@ use Rattle.tables.specs.Layout.{roomForStates}
 use Rattle.tables.specs.Reads.{Whole, stateCountIn, denseIn, gainIn, endingIn}
 use Rattle.running.specs.Waiting.{slotOf}
 use Rattle.running.specs.Reads.{WholeRunning, flagIn}
-use Rattle.seeking.specs.Quick.{quickIn}
+use Rattle.seeking.specs.Quick.{quickNext}
 use Rattle.gliding.specs.declared.Way.{Way}
 
 -- How far bytes have been taken: the state, the place, how many bytes, and the sum of the gains.
@@ -22,7 +22,7 @@ pub record Gone : Type 0 where
 -- One byte more.
 unfoldable pub further : List ℕ → Gone → ℕ → Gone
 further t gone byte =
-    let next : ℕ = quickIn t (stateCountIn t) (denseIn t) (gone .state) byte in
+    let next : ℕ = quickNext t (gone .state) byte in
     record { state = next; place = gone .place + 1; taken = gone .taken + 1; gains = gone .gains + gainIn t next }
 
 -- What is seen of a slot: its flag, 0 where no window waits in it.

@@ -10,6 +10,7 @@ use Rattle.meaning.specs.Books.{Book, keywords}
 use Rattle.format.specs.Limits.{All}
 use Rattle.format.specs.Limits as limits
 use Rattle.lent.specs.Numbers.{numberAt}
+use Rattle.lent.specs.Zeros.{Zero}
 use Rattle.lent.proofs.Cases.{lt-or-le}
 use Rattle.lent.proofs.Numbers.{number-agree}
 use Rattle.numbering.specs.States.{stateCount, firstChild, failureIn}
@@ -17,12 +18,13 @@ use Rattle.tables.specs.Regions.{entryLength, HoldsParts, HoldsRegion}
 use Rattle.tables.specs.Layout.{labelAt, failAt, childAt, pieceAt, roomForStates, upTo, labelOf, number, region}
 use Rattle.tables.specs.Reads.{Whole, failIn}
 use Rattle.tables.proofs.Parts.{number-one, number-zero}
+use Rattle.tables.proofs.Fields.{upTo-below, upTo-past}
 use Rattle.stepping.specs.Held.{HoldsStates, HoldsFailures}
 use Rattle.filling.specs.Keywords.{Gives}
 use Rattle.filling.specs.Turns.{numbered, closed}
-use Rattle.filling.specs.Filled.{Zero, StatesFilled}
+use Rattle.filling.specs.Filled.{StatesFilled}
 use Rattle.filling.proofs.Given.{given-bytes}
-use Rattle.filling.proofs.Filled.{upTo-below, upTo-past, count-filled, states-filled}
+use Rattle.filling.proofs.Filled.{count-filled, states-filled}
 use Rattle.linking.specs.Failures.{linked}
 use Rattle.linking.specs.Filled.{Filled}
 use Rattle.linking.proofs.Linked.{Sofar, linked-right}

@@ -10,6 +10,7 @@ use lib.ListN.{length, getD}
 use Rattle.meaning.specs.Books.{Book, keywords}
 use Rattle.format.specs.Limits.{All, Bytes}
 use Rattle.lent.specs.Numbers.{withNumber}
+use Rattle.lent.specs.Zeros.{Zero}
 use Rattle.lent.proofs.Numbers.{length-withNumber, number-byte-apart, number-apart, number-written}
 use Rattle.numbering.specs.States.{stateCount, stateAt, firstChild, ChildOf, lastByte, failureIn}
 use Rattle.numbering.specs.Walks.{Landed}
@@ -22,7 +23,6 @@ use Rattle.tables.proofs.Parts.{number-zero}
 use Rattle.stepping.specs.Steps.{childrenEndIn, nextIn}
 use Rattle.stepping.specs.Held.{HoldsStates, HoldsFailures}
 use Rattle.stepping.proofs.Right.{children-end-right, back-right, next-right}
-use Rattle.filling.specs.Filled.{Zero}
 use Rattle.linking.specs.Failures.{failureOfChild, withFailure, withFailures, withChildrenOf, withParents, linked}
 
 -- The failures of the states below a number are filled in, and no other byte is changed.

@@ -110,11 +110,16 @@ unfoldable pub goesOn : (List ℕ → Bool) → List ℕ → ℕ → Option (Lis
 unfolding suffixes first
 goesOn state u a = first (λ w. state w && state (w ++ a ∷ [])) (suffixes u)
 
+-- How many nonempty states are suffixes of some bytes: so many failures lead from a state to the empty one.
+unfoldable pub depth : (List ℕ → Bool) → List ℕ → ℕ
+unfolding suffixes count nonempty
+depth state u = count (λ s. state s && nonempty s) (suffixes u)
+
 -- The states that are suffixes of u and longer than w; where there is no w, the nonempty ones.
 unfoldable pub passed : (List ℕ → Bool) → List ℕ → Option (List ℕ) → ℕ
-unfolding suffixes count nonempty
+unfolding suffixes count depth
 passed state u (some w) = count (λ s. state s && ltb (length w) (length s)) (suffixes u)
-passed state u none = count (λ s. state s && nonempty s) (suffixes u)
+passed state u none = depth state u
 
 -- The failure steps for one byte a, from the state u.
 unfoldable pub stepsFor : (List ℕ → Bool) → List ℕ → ℕ → ℕ
@@ -138,11 +143,6 @@ unfolding isState stepsUpTo
 steps book letter = stepsUpTo (isState book) letter (length letter)
 
 -- ── What bounds the steps ──
-
--- How many nonempty states are suffixes of some bytes: so many failures lead from a state to the empty one.
-unfoldable pub depth : (List ℕ → Bool) → List ℕ → ℕ
-unfolding suffixes count nonempty
-depth state u = count (λ s. state s && nonempty s) (suffixes u)
 
 -- Some bytes without the last one; the empty string, which has none, is given itself.
 unfoldable pub parent : List ℕ → List ℕ

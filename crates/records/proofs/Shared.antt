@@ -11,6 +11,7 @@ use lib.ListN.{length, drop, getD, length-take, length-drop}
 use types.Run.{OneOf}
 use denote.Enum.Declared.{tagOf}
 use borrow.Author.Tests.{leb-false, ltb-false, lt-ltb, le-ltb}
+use Rattle.meaning.specs.Matching.{bytesAfter}
 use Rattle.format.specs.Prefixes.{commonPrefix, mostShared}
 use Rattle.format.specs.Refusals.{cut, kind}
 use Rattle.format.specs.Written.{headerKind, phraseKind, boundedKind, openKind, endKind}
@@ -22,7 +23,7 @@ use Rattle.records.specs.declared.records.Found.the-variants.{Header, Ph
 use Rattle.records.specs.declared.records.Cursor.{Cursor}
 use Rattle.records.specs.Records.{known, whole, nothing, bodyAt, foundFor, wholeAt, foundAs, readAt}
 use Rattle.records.specs.Readers.{pastOf}
-use Rattle.records.specs.Prefixes.{bytesFrom, Inside, keywordIn, keywordsFrom, keywordsBefore}
+use Rattle.records.specs.Prefixes.{Inside, keywordIn, keywordsFrom, keywordsBefore}
 
 -- ── Where the next record is ──
 
@@ -92,7 +93,7 @@ shared-append (v ∷ vs) ws w = omega (arith, shared-append vs ws w)
 
 -- A keyword shares what is common.
 pub keyword-shared : (bytes w : List ℕ) {found : Found} {start count : ℕ} {next : Cursor} → found ≡ Keyword start count next
-    → {shared : ℕ} → shared ≡ commonPrefix w (bytesFrom start count bytes) → shared ≡ mostShared (keywordIn bytes found) w
+    → {shared : ℕ} → shared ≡ commonPrefix w (bytesAfter start count bytes) → shared ≡ mostShared (keywordIn bytes found) w
 unfolding mostShared keywordIn
 keyword-shared bytes w is e = rw is (omega (arith, e))
 
@@ -159,5 +160,6 @@ module _ (bytes : List ℕ) (end : ℕ) where
         go (suc n) enough rest = record { fuel = n; enough = omega (arith, ahead); rest = omega (arith, own, step n) }
 
 -- No keyword shares more bytes than it has.
-pub shared-within : (bytes : List ℕ) (end x m : ℕ) → mostShared (keywordsBefore bytes end) (bytesFrom x m bytes) ≤ m
-shared-within bytes end x m = omega (arith, length-take m (drop x bytes), shared-short (keywordsBefore bytes end) (bytesFrom x m bytes))
+pub shared-within : (bytes : List ℕ) (end x m : ℕ) → mostShared (keywordsBefore bytes end) (bytesAfter x m bytes) ≤ m
+unfolding bytesAfter
+shared-within bytes end x m = omega (arith, length-take m (drop x bytes), shared-short (keywordsBefore bytes end) (bytesAfter x m bytes))

@@ -3,15 +3,12 @@ use mathlib.Core.Bool.{cond}
 use mathlib.Core.List.{List, [], _∷_, _++_}
 use Prim.Native.Nat.{ℕ, zero, suc, _+_, _≤_}
 use lib.Dec.{ltb}
-use lib.ListN.{length, take, drop}
+use lib.ListN.{length}
+use Rattle.meaning.specs.Matching.{bytesAfter}
 use Rattle.records.specs.declared.records.Found.{Found}
 use Rattle.records.specs.declared.records.Found.the-variants.{Header, Phrase, Bounded, Open, Keyword, End, Refused}
 use Rattle.records.specs.Records.{readAt}
 use Rattle.records.specs.Readers.{pastOf}
-
--- So many bytes, from an offset on.
-abbrev pub bytesFrom : ℕ → ℕ → List ℕ → List ℕ
-bytesFrom start count bytes = take count (drop start bytes)
 
 -- A keyword that was found lies in the book.
 abbrev pub Inside : List ℕ → Found → Type 0
@@ -25,11 +22,12 @@ Inside bytes (Refused why at) = Unit {0}
 
 -- The keyword of a record, if it is one.
 unfoldable pub keywordIn : List ℕ → Found → List (List ℕ)
+unfolding bytesAfter
 keywordIn bytes (Header edition next) = []
 keywordIn bytes (Phrase number rights next) = []
 keywordIn bytes (Bounded least most next) = []
 keywordIn bytes (Open least next) = []
-keywordIn bytes (Keyword start count next) = bytesFrom start count bytes ∷ []
+keywordIn bytes (Keyword start count next) = bytesAfter start count bytes ∷ []
 keywordIn bytes (End count next) = []
 keywordIn bytes (Refused why at) = []
 

@@ -3,8 +3,9 @@
 ghost use mathlib.Core.Path.{_≡_};
 ghost use Prim.Native.Nat.{_+_, _≤_, max};
 ghost use lib.ListN.{length};
+ghost use Rattle.meaning.specs.Matching.{bytesAfter};
 ghost use Rattle.format.specs.Prefixes.{commonPrefix, mostShared};
-ghost use Rattle.records.specs.Prefixes.{bytesFrom, Inside, keywordIn, keywordsBefore};
+ghost use Rattle.records.specs.Prefixes.{Inside, keywordIn, keywordsBefore};
 use crate::reader::past;
 use crate::reader::read;
 use crate::records::Cursor;
@@ -21,7 +22,7 @@ fn larger(m: usize, n: usize) -> usize
 fn common(book: &[u8], x: usize, m: usize, y: usize, n: usize) -> usize
     requires { ⌜ x + m ≤ length (now book) ⌝ }
     requires { ⌜ y + n ≤ length (now book) ⌝ }
-    ensures { λ r. ⌜ r ≡ commonPrefix (bytesFrom x m (now (book .entry))) (bytesFrom y n (now (book .entry))) ⌝ }
+    ensures { λ r. ⌜ r ≡ commonPrefix (bytesAfter x m (now (book .entry))) (bytesAfter y n (now (book .entry))) ⌝ }
 {
     let mut i = 0;
     while i < m {
@@ -40,7 +41,7 @@ fn common(book: &[u8], x: usize, m: usize, y: usize, n: usize) -> usize
 fn shared_with(book: &[u8], x: usize, m: usize, found: Found) -> usize
     requires { ⌜ x + m ≤ length (now book) ⌝ }
     requires { ⌜ Inside (now book) found ⌝ }
-    ensures { λ r. ⌜ r ≡ mostShared (keywordIn (now (book .entry)) found) (bytesFrom x m (now (book .entry))) ⌝ }
+    ensures { λ r. ⌜ r ≡ mostShared (keywordIn (now (book .entry)) found) (bytesAfter x m (now (book .entry))) ⌝ }
 {
     match found {
         Found::Keyword {
@@ -57,7 +58,7 @@ fn shared_with(book: &[u8], x: usize, m: usize, found: Found) -> usize
 pub fn most_shared(book: &[u8], end: usize, x: usize, m: usize) -> usize
     requires { ⌜ end ≤ length (now book) ⌝ }
     requires { ⌜ x + m ≤ length (now book) ⌝ }
-    ensures { λ r. ⌜ (r ≡ mostShared (keywordsBefore (now (book .entry)) end) (bytesFrom x m (now (book .entry)))) × (r ≤ m) ⌝ }
+    ensures { λ r. ⌜ (r ≡ mostShared (keywordsBefore (now (book .entry)) end) (bytesAfter x m (now (book .entry)))) × (r ≤ m) ⌝ }
 {
     let mut at = 0;
     let mut most = 0;

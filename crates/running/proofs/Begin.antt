@@ -20,11 +20,12 @@ use Rattle.meaning.proofs.Windows.{ends-snoc}
 use Rattle.format.specs.Limits.{Within}
 use Rattle.tables.specs.Spots.{none-left, spotAt, spotCount, Placed}
 use Rattle.tables.proofs.Spots.{placed}
+use Rattle.tables.proofs.Fields.{upTo-below, upTo-past}
 use Rattle.running.specs.Waiting.{slots, slotFor, closingFrom, closingOf, opensFrom, placeIn}
 use Rattle.running.specs.Layout.{closingIn}
 use Rattle.running.specs.Kept.{Kept, waitingFirst}
 use Rattle.running.proofs.Places.{slot-for}
-use Rattle.running.proofs.Entries.{upTo-below, upTo-past, waits-below, waits-past}
+use Rattle.running.proofs.Entries.{waits-below, waits-past}
 
 none-left-iff : (pieces : List Piece) → So (none-left pieces) ↔ (pieces ≡ [])
 unfolding none-left

@@ -8,16 +8,7 @@ use lib.ListN.{length}
 use borrow.Author.Tests.{lt-ltb, le-ltb}
 use Rattle.meaning.specs.Books.{Book}
 use Rattle.tables.specs.Spots.{spotAt, spotCount}
-use Rattle.tables.specs.Layout.{upTo}
 use Rattle.running.specs.Waiting.{opensFrom, placeIn, waits}
-
-pub upTo-below : (count : ℕ) (value : ℕ → ℕ) (j : ℕ) → j < count → upTo count value j ≡ value j
-unfolding upTo
-upTo-below count value j h = rw (lt-ltb j count h)
-
-pub upTo-past : (count : ℕ) (value : ℕ → ℕ) (j : ℕ) → count ≤ j → upTo count value j ≡ 0
-unfolding upTo
-upTo-past count value j h = rw (le-ltb j count h)
 
 module _ (book : Book) (x : List ℕ) (q p : ℕ) where
   pub waits-below : p < spotCount book → waits book x q p ≡ opensFrom (spotAt book p) x (placeIn (length x) q)

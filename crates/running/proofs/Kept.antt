@@ -20,6 +20,7 @@ use Rattle.format.specs.Limits.{Within}
 use Rattle.tables.specs.Spots.{spotAt, spotCount, Placed}
 use Rattle.tables.proofs.Spots.{placed}
 use Rattle.tables.proofs.Fits.{fits}
+use Rattle.tables.proofs.Fields.{upTo-below, upTo-past}
 use Rattle.tables.specs.Layout.{roomForPieces}
 use Rattle.running.specs.Waiting.{slots, never, slotFor, closingOf, opensFrom, placeIn}
 use Rattle.running.specs.Layout.{closingIn}
@@ -27,7 +28,7 @@ use Rattle.running.specs.Kept.{Kept, closingAfter, waitingOn, endsHere, 
 use Rattle.running.proofs.Places.{PlaceOf, place-in, place-new, place-kept, slot-for}
 use Rattle.running.proofs.Closing.{spot-ended, closing-step}
 use Rattle.running.proofs.Opening.{opening-step, none-opens}
-use Rattle.running.proofs.Entries.{upTo-below, upTo-past, waits-below, waits-past}
+use Rattle.running.proofs.Entries.{waits-below, waits-past}
 
 -- An older window goes on waiting when a newer one begins, so that it opens at its own place: row H.
 pub older-waits : (book : Book) (place : ℕ) (closing : ℕ → ℕ) (waiting : ℕ → ℕ → Bool) (ending : ℕ → Bool) (q p : ℕ)

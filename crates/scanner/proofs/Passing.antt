@@ -3,14 +3,15 @@
 -- Assumes nothing.
 use mathlib.Core.Path.{_≡_, refl, sym, _∙_}
 use mathlib.Core.Logic.{inl, inr, ⊎-elim, _↔_}
-use mathlib.Core.Bool.{Bool, true, false, So, not, _||_, and-eq-true-iff, false≢true}
+use mathlib.Core.Bool.{Bool, true, false, So, _||_, and-eq-true-iff, false≢true}
 use mathlib.Core.List.{List}
 use Prim.Native.Nat.{ℕ, _≤_, _<_}
 use native.Mathlib.Omega.{arith}
 use lib.Dec.{ltb, eqb}
-use lib.ListN.{length, getD}
-use borrow.Author.Tests.{lt-ltb, le-ltb, le-leb, lt-leb, eq-eqb, ne-eqb, ltb-true, ltb-false, leb-true, eqb-true}
+use lib.ListN.{length}
+use borrow.Author.Tests.{lt-ltb, le-ltb, le-leb, lt-leb, eq-eqb, ne-eqb, ltb-true, ltb-false, leb-true, eqb-true, not-true}
 use Rattle.meaning.specs.Calls.{largestPlace}
+use Rattle.lent.specs.Zeros.{Zero}
 use Rattle.lent.proofs.Cases.{lt-or-le}
 use Rattle.meaning.proofs.Truth.{untrue}
 use Rattle.tables.specs.Layout.{tablesSize}
@@ -93,7 +94,7 @@ module _ (t m : List ℕ) where
       let b = and-eq-true-iff _ _ .0 (a .1) in
       let c = and-eq-true-iff _ _ .0 (b .1) in
       let d = and-eq-true-iff _ _ .0 (c .1) in
-      let s = sizes (not-so (tooSmall t m) (a .0)) in
+      let s = sizes (not-true (tooSmall t m) (a .0)) in
       record {
         tables = s .0;
         memory = s .1;
@@ -102,15 +103,11 @@ module _ (t m : List ℕ) where
         place = leb-true (placeHeld m) largestPlace (d .0);
         mark = eqb-true (markHeld m) (markIn t) (d .1);
       }
-    where
-      not-so : (v : Bool) → not v ≡ true → v ≡ false
-      not-so true e = absurd (false≢true e)
-      not-so false e = refl
 
   pub pass-iff : So (runningPass t m) ↔ RunningPass t m
   pass-iff = (passed, passes)
 
   -- Running memory that is zero up to its published size does not pass, with any tables.
-  pub zero-fails : ((k : ℕ) → k < runningSize → getD m k 0 ≡ 0) → runningPass t m ≡ false
+  pub zero-fails : Zero 0 runningSize m → runningPass t m ≡ false
   unfolding runningSize runningTag
-  zero-fails zeros = untrue (runningPass t m) (λ h. omega (arith, passed h .tag, number-zero 8 m tagAt (λ k a b. zeros k (omega arith))))
+  zero-fails zeros = untrue (runningPass t m) (λ h. omega (arith, passed h .tag, number-zero 8 m tagAt (λ k a b. zeros k (omega arith) (omega arith))))

@@ -3,13 +3,12 @@ use mathlib.Core.Path.{_≡_}
 use mathlib.Core.List.{List}
 use Prim.Native.Nat.{ℕ, zero, suc, _+_, _-_, _*_, _<_}
 use lib.ListN.{length, getD}
-use Rattle.tables.specs.Reads.{stateCountIn, denseIn}
-use Rattle.seeking.specs.Quick.{quickIn}
+use Rattle.seeking.specs.Quick.{quickNext}
 
 -- The state after so many bytes of a part, from one of its bytes on.
 unfoldable pub afterFrom : List ℕ → List ℕ → ℕ → ℕ → ℕ → ℕ
 afterFrom t part first state zero = state
-afterFrom t part first state (suc n) = quickIn t (stateCountIn t) (denseIn t) (afterFrom t part first state n) (getD part (first + n) 0)
+afterFrom t part first state (suc n) = quickNext t (afterFrom t part first state n) (getD part (first + n) 0)
 
 -- Four quarters of a part, looked up side by side from one of its bytes on: every fourth number is of the same quarter, and each is the state that the
 -- byte leads to.

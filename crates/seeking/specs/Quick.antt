@@ -3,7 +3,7 @@ use mathlib.Core.Bool.{Bool, cond, _&&_}
 use mathlib.Core.List.{List}
 use Prim.Native.Nat.{ℕ, zero, suc, _-_, _*_}
 use lib.Dec.{ltb, leb, eqb}
-use Rattle.tables.specs.Reads.{columnIn, cellIn, backIn}
+use Rattle.tables.specs.Reads.{stateCountIn, denseIn, columnIn, cellIn, backIn}
 use Rattle.stepping.specs.Steps.{childByIn}
 
 -- The last offset at which a column may begin: behind it there is no room for the cells of all dense states.
@@ -48,3 +48,7 @@ unfolding soughtIn
 quickIn t states dense i byte =
     let found : ℕ = soughtIn t states dense i byte in
     cond (ltb found states) found 0
+
+-- The same with the counts that the tables themselves hold.
+abbrev pub quickNext : List ℕ → ℕ → ℕ → ℕ
+quickNext t i byte = quickIn t (stateCountIn t) (denseIn t) i byte

@@ -4,6 +4,7 @@ use mathlib.Core.Logic.{_⊎_}
 use mathlib.Core.List.{List}
 use Prim.Native.Nat.{ℕ, _+_, _*_, _≤_, _<_}
 use lib.ListN.{length, getD}
+use Rattle.lent.specs.Zeros.{Zero}
 use Rattle.meaning.specs.Books.{Book}
 use Rattle.meaning.specs.Matching.{bytesAfter}
 use Rattle.format.specs.Limits.{longestKeyword}
@@ -18,7 +19,7 @@ use Rattle.survey.specs.Turns.{Notes}
 -- What build lends: table memory whose regions of pieces and phrases are zero, and room for 256 keywords.
 pub record Blank (before : Notes) : Type 0 where
   pub whole : Whole (before .tables)
-  pub zero : (k : ℕ) → pieceAt ≤ k → k < rowsAt → getD (before .tables) k 0 ≡ 0
+  pub zero : Zero pieceAt rowsAt (before .tables)
   pub offsets : length (before .offsets) ≡ roomForPieces
   pub lengths : length (before .lengths) ≡ roomForPieces
 

@@ -8,7 +8,7 @@ use native.Mathlib.Nat.{mul-add-div, div-eq-of-lt, mul-add-mod-self-left, mod-eq
 use native.Mathlib.Omega.{arith}
 use lib.ListN.{length}
 use Rattle.meaning.specs.Books.{Book}
-use Rattle.meaning.specs.Automaton.{isState, after, depth, parent}
+use Rattle.meaning.specs.Automaton.{isState, after, depth, parent, nonempty}
 use Rattle.meaning.proofs.States.{isState-closed}
 use Rattle.meaning.proofs.Depth.{depth-cons, depth-nil, depth-parent, steps-depth}
 use Rattle.format.specs.Limits.{Within, longestKeyword}
@@ -18,14 +18,14 @@ use Rattle.numbering.proofs.States.{number-empty}
 use Rattle.numbering.proofs.Steps.{stepBy-string}
 use Rattle.numbering.proofs.Limits.{stateAt-short}
 use Rattle.tables.specs.Regions.{entryLength, Laid}
-use Rattle.tables.specs.Endings.{someIn, endings}
+use Rattle.tables.specs.Endings.{endings}
 use Rattle.tables.specs.Classes.{occurs, occurringBelow, occurring, classOf, classCount}
 use Rattle.tables.specs.Layout.{always, depthOf, gainOf, endingMark, infoOf, denseCount, columnOf, nextByClass, cellOf, tablesLayout}
 use Rattle.tables.specs.Reads.{infoIn, denseIn, columnIn, cellIn, depthIn, gainIn}
 use Rattle.tables.proofs.Fits.{fits}
 use Rattle.tables.proofs.Parts.{field-at, byte-at}
 use Rattle.tables.proofs.Classes.{absent-empty, class-byte, class-occurs, class-absent, cells-room, cell-inside}
-use Rattle.tables.proofs.Fields.{up-to, info-laid}
+use Rattle.tables.proofs.Fields.{upTo-below, info-laid}
 
 -- A place in rows of d: the quotient and the remainder.
 pub row-of : (d c u : ℕ) → u < d → ((d * c + u) / d ≡ c) × ((d * c + u) % d ≡ u)
@@ -117,16 +117,16 @@ module _ (book : Book) (within : Within book) where
     cell-laid u a l h =
         let j : ℕ = denseCount book * classOf book a + u in
         field-at t (tablesLayout book) laid 16 0 j (omega (arith, cell-inside book u a l h, cells-room book)) _ (omega (arith, column-laid a h))
-        ∙ up-to (denseCount book * classCount book) (cellOf book) j (cell-inside book u a l h)
+        ∙ upTo-below (denseCount book * classCount book) (cellOf book) j (cell-inside book u a l h)
         ∙ cell-next u a l h
 
     pub depth-laid : (i : ℕ) → i < stateCount book → depthIn t i ≡ depthOf book i
     unfolding tablesLayout entryLength
-    depth-laid i inside = byte-at t (tablesLayout book) laid 10 0 i (omega (arith, fits book within .states)) _ (omega arith) refl ∙ up-to (stateCount book) (depthOf book) i inside
+    depth-laid i inside = byte-at t (tablesLayout book) laid 10 0 i (omega (arith, fits book within .states)) _ (omega arith) refl ∙ upTo-below (stateCount book) (depthOf book) i inside
 
     pub gain-laid : (i : ℕ) → i < stateCount book → gainIn t i ≡ gainOf book i
     unfolding infoOf endingMark
-    gain-laid i inside = go (someIn (endings book (stateAt book i))) (info-laid book within t laid i inside)
+    gain-laid i inside = go (nonempty (endings book (stateAt book i))) (info-laid book within t laid i inside)
       where
         go : (v : Bool) → infoIn t i ≡ gainOf book i + cond v 128 0 → gainIn t i ≡ gainOf book i
         go true e = omega (arith, e, gain-few i inside)

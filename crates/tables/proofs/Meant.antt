@@ -8,13 +8,14 @@ use native.Mathlib.Omega.{arith}
 use lib.Dec.{leb, eqb}
 use borrow.Author.Tests.{le-leb, lt-leb}
 use Rattle.meaning.specs.Books.{Book}
+use Rattle.meaning.specs.Automaton.{nonempty}
 use Rattle.format.specs.Limits.{Within}
 use Rattle.numbering.specs.States.{stateCount, stateAt, failureIn}
 use Rattle.numbering.proofs.Keywords.{within-bytes}
 use Rattle.numbering.proofs.Steps.{failureIn-smaller, failureIn-root}
 use Rattle.tables.specs.Regions.{Laid}
 use Rattle.tables.specs.Spots.{Spot, none-left, spotAt, spotCount}
-use Rattle.tables.specs.Endings.{endings, keywordOf, behind, linkTo, headOf, someIn, linkOf, chain}
+use Rattle.tables.specs.Endings.{endings, keywordOf, behind, linkTo, headOf, linkOf, chain}
 use Rattle.tables.specs.Layout.{roomForPieces, gainOf, endingMark, infoOf, outOf, spotEnds, endsOf, tablesLayout}
 use Rattle.tables.specs.Reads.{endingIn, firstLinkIn, backIn, onwardIn, saysLast, saysFirst, lastIn, firstIn}
 use Rattle.tables.proofs.Followed.{back-fail, back-root, onward-link}
@@ -23,6 +24,12 @@ use Rattle.tables.proofs.Endings.{endings-iff, endings-few}
 use Rattle.tables.proofs.Chains.{leads-same, endings-lead, chain-list}
 use Rattle.tables.proofs.Fields.{info-laid, out-laid, fail-laid, link-laid, ends-laid}
 use Rattle.tables.proofs.Fast.{gain-few}
+
+-- A link to a list is one more than its first piece, if it has one.
+pub link-head : (l : List ℕ) → cond (nonempty l) (headOf l + 1) 0 ≡ linkTo l
+unfolding nonempty headOf linkTo
+link-head [] = refl
+link-head (p ∷ l) = refl
 
 -- Whatever comes behind, a link leads to a piece of the list.
 link-below : (n p : ℕ) (l : List ℕ) → ((q : ℕ) → List·Memᴰ q l → q < n) → linkTo (behind p l) ≤ n
@@ -59,21 +66,17 @@ module _ (book : Book) (within : Within book) (t : List ℕ) (laid : Laid (table
         go zero e = rw e (back-root t 0 (omega arith) ∙ sym (failureIn-root book (within-bytes book within)))
         go (suc k) e = back-fail t i (omega (arith, fail-laid book within t laid i inside, failureIn-smaller book (within-bytes book within) i (omega arith) inside)) ∙ fail-laid book within t laid i inside
 
-    pub ending-laid : endingIn t i ≡ someIn (endings book (stateAt book i))
+    pub ending-laid : endingIn t i ≡ nonempty (endings book (stateAt book i))
     unfolding endingIn infoOf endingMark
-    ending-laid = ap (leb 128) (info-laid book within t laid i inside) ∙ go (someIn (endings book (stateAt book i))) (gainOf book i) (gain-few book within i inside)
+    ending-laid = ap (leb 128) (info-laid book within t laid i inside) ∙ go (nonempty (endings book (stateAt book i))) (gainOf book i) (gain-few book within i inside)
       where
         go : (v : Bool) (gain : ℕ) → gain ≤ 33 → leb 128 (gain + cond v 128 0) ≡ v
         go true gain few = le-leb 128 (gain + 128) (omega arith)
         go false gain few = lt-leb 128 (gain + 0) (omega arith)
 
     pub first-link-laid : firstLinkIn t i ≡ linkTo (endings book (stateAt book i))
-    unfolding firstLinkIn outOf someIn headOf linkTo
-    first-link-laid = ap₂ (λ (v : Bool) (o : ℕ). cond v (o + 1) 0) ending-laid (out-laid book within t laid i inside) ∙ go (endings book (stateAt book i))
-      where
-        go : (l : List ℕ) → cond (someIn l) (headOf l + 1) 0 ≡ linkTo l
-        go [] = refl
-        go (p ∷ l) = refl
+    unfolding firstLinkIn outOf
+    first-link-laid = ap₂ (λ (v : Bool) (o : ℕ). cond v (o + 1) 0) ending-laid (out-laid book within t laid i inside) ∙ link-head (endings book (stateAt book i))
 
   module _ (p : ℕ) (inside : p < spotCount book) where
     pub onward-laid : onwardIn t p ≡ linkOf book p

@@ -7,14 +7,17 @@ use mathlib.Core.List.{List, []}
 use Prim.Native.Nat.{ℕ, zero, suc, _≤_, _<_}
 use native.Mathlib.Omega.{arith}
 use lib.Dec.{leb}
-use lib.ListN.{length, getD}
+use lib.ListN.{length}
 use borrow.Author.Tests.{leb-true, le-leb, lt-leb, eqb-true, eq-eqb, ne-eqb}
 use Rattle.lent.specs.Numbers.{numberAt}
+use Rattle.lent.specs.Zeros.{Zero}
 use Rattle.meaning.specs.Books.{Book}
 use Rattle.meaning.specs.Automaton.{isState}
-use Rattle.meaning.proofs.Truth.{both, and-left, and-right, untrue}
+use Rattle.meaning.proofs.Truth.{both, untrue}
 use Rattle.meaning.proofs.States.{keyword-state}
-use Rattle.format.specs.Limits.{Between, Within}
+use Rattle.format.specs.Limits.{Within}
+use Rattle.format.specs.Faults.{between}
+use Rattle.format.proofs.Bodies.{between-iff}
 use Rattle.numbering.specs.States.{stateCount, stateAt, numberIn}
 use Rattle.numbering.proofs.Keywords.{within-bytes}
 use Rattle.numbering.proofs.States.{number-below, stateAt-number, stateAt-empty}
@@ -23,7 +26,7 @@ use Rattle.tables.specs.Spots.{spotCount}
 use Rattle.tables.specs.Endings.{keywordOf}
 use Rattle.tables.specs.Layout.{tablesSize, tagAt, roomForStates, roomForPieces, roomForPhrases, tablesTag, tablesLayout}
 use Rattle.tables.specs.Reads.{stateCountIn, denseIn, pieceCountIn, phraseCountIn}
-use Rattle.tables.specs.Passing.{TablesPass, between, countsPass, tablesPass}
+use Rattle.tables.specs.Passing.{TablesPass, countsPass, tablesPass}
 use Rattle.tables.proofs.Spots.{placed}
 use Rattle.tables.proofs.Fits.{fits}
 use Rattle.tables.proofs.Parts.{number-zero}
@@ -55,7 +58,7 @@ module _ (t : List ℕ) where
   pass-tag long h = rw (le-leb 49152 (length t) long, ne-eqb (numberAt 8 t tagAt) tablesTag h)
 
   pub pass-counts : 49152 ≤ length t → numberAt 8 t tagAt ≡ tablesTag → tablesPass t ≡ countsPass t
-  unfolding tablesPass countsPass tablesSize
+  unfolding tablesPass tablesSize
   pass-counts long tag = rw (le-leb 49152 (length t) long, eq-eqb (numberAt 8 t tagAt) tablesTag tag)
 
   pub counts-states : between 2 roomForStates (stateCountIn t) ≡ false → countsPass t ≡ false
@@ -77,13 +80,6 @@ module _ (t : List ℕ) where
       counts-phrases h = rw (states, dense, h)
 
 -- ── What passes ──
-
-between-iff : (low high n : ℕ) → So (between low high n) ↔ Between low high n
-unfolding between
-between-iff low high n = (
-  λ h. (leb-true low n (and-left (leb low n) (leb n high) h), leb-true n high (and-right (leb low n) (leb n high) h)),
-  λ h. both (leb low n) (leb n high) (le-leb low n (h .0)) (le-leb n high (h .1)),
-)
 
 -- The test says what the statement beside it says.
 pub pass-iff : (t : List ℕ) → So (tablesPass t) ↔ TablesPass t
@@ -143,6 +139,6 @@ module _ (book : Book) (within : Within book) where
   })
 
 -- Memory that is zero up to the published size does not pass.
-pub zero-fails : (t : List ℕ) → ((k : ℕ) → k < tablesSize → getD t k 0 ≡ 0) → tablesPass t ≡ false
+pub zero-fails : (t : List ℕ) → Zero 0 tablesSize t → tablesPass t ≡ false
 unfolding tablesSize tablesTag
-zero-fails t zeros = untrue (tablesPass t) (λ h. omega (arith, pass-iff t .0 h .tag, number-zero 8 t tagAt (λ k a b. zeros k (omega arith))))
+zero-fails t zeros = untrue (tablesPass t) (λ h. omega (arith, pass-iff t .0 h .tag, number-zero 8 t tagAt (λ k a b. zeros k (omega arith) (omega arith))))

@@ -1,6 +1,6 @@
 -- Which pieces end in a state, in the order in which the scan looks at them. Assumes nothing: these are definitions.
 use mathlib.Core.Path.{_≡_}
-use mathlib.Core.Bool.{Bool, true, false, cond}
+use mathlib.Core.Bool.{cond}
 use mathlib.Core.List.{List, [], _∷_, _++_}
 use Prim.Native.Nat.{ℕ, zero, suc, _+_}
 use lib.Dec.{eqb}
@@ -47,10 +47,6 @@ linkTo (p ∷ rest) = p + 1
 unfoldable pub headOf : List ℕ → ℕ
 headOf [] = 0
 headOf (p ∷ rest) = p
-
-unfoldable pub someIn : List ℕ → Bool
-someIn [] = false
-someIn (p ∷ rest) = true
 
 -- The link of piece p: to the piece that is looked at after it, wherever its keyword is a suffix of the state.
 unfoldable pub linkOf : Book → ℕ → ℕ

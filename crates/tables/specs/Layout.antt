@@ -5,13 +5,13 @@ use Prim.Native.Nat.{ℕ, zero, suc, min, _+_, _-_, _*_, _/_, _%_, _≤_}
 use lib.Dec.{ltb}
 use lib.ListN.{length, getD}
 use Rattle.meaning.specs.Books.{Gap, bounded, openFrom, Book}
-use Rattle.meaning.specs.Automaton.{isState, depth, parent}
+use Rattle.meaning.specs.Automaton.{isState, depth, parent, nonempty}
 use Rattle.meaning.specs.Windows.{delay}
 use Rattle.format.specs.Written.{written}
 use Rattle.numbering.specs.States.{byteValues, stateCount, stateAt, firstChild, lastByte, failureIn, stepBy}
 use Rattle.tables.specs.Regions.{Part, Region}
 use Rattle.tables.specs.Spots.{Spot, none-left, spotCount, spotAt, noPhrase}
-use Rattle.tables.specs.Endings.{endings, headOf, someIn, linkOf}
+use Rattle.tables.specs.Endings.{endings, headOf, linkOf}
 use Rattle.tables.specs.Classes.{occurring, classOf, classCount}
 
 -- The published size.
@@ -124,8 +124,8 @@ gainOf book i = 1 + depth (isState book) (parent (stateAt book i)) - depth (isSt
 
 -- The mark 128: some keyword is a suffix of the state.
 unfoldable pub endingMark : Book → ℕ → ℕ
-unfolding someIn endings
-endingMark book i = cond (someIn (endings book (stateAt book i))) 128 0
+unfolding nonempty endings
+endingMark book i = cond (nonempty (endings book (stateAt book i))) 128 0
 
 -- What a state's info says: both in one byte.
 unfoldable pub infoOf : Book → ℕ → ℕ

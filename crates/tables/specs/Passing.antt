@@ -8,6 +8,7 @@ use lib.Dec.{leb, eqb}
 use lib.ListN.{length}
 use Rattle.lent.specs.Numbers.{numberAt}
 use Rattle.format.specs.Limits.{Between}
+use Rattle.format.specs.Faults.{between}
 use Rattle.tables.specs.Layout.{tablesSize, tagAt, roomForStates, roomForPieces, roomForPhrases, tablesTag}
 use Rattle.tables.specs.Reads.{stateCountIn, denseIn, pieceCountIn, phraseCountIn}
 
@@ -20,21 +21,7 @@ pub record TablesPass (t : List ℕ) : Type 0 where
   pub pieces : Between 1 roomForPieces (pieceCountIn t)
   pub phrases : Between 1 roomForPhrases (phraseCountIn t)
 
-unfoldable pub between : ℕ → ℕ → ℕ → Bool
-between low high n = leb low n && leb n high
-
--- The same as a test.
-unfoldable pub tablesPass : List ℕ → Bool
-unfolding between
-tablesPass t =
-    leb tablesSize (length t)
-    && (eqb (numberAt 8 t tagAt) tablesTag
-    && (between 2 roomForStates (stateCountIn t)
-    && (between 1 (stateCountIn t) (denseIn t)
-    && (between 1 roomForPieces (pieceCountIn t)
-    && between 1 roomForPhrases (phraseCountIn t)))))
-
--- The part of the test that speaks of the counts.
+-- The same as a test: first the part of it that speaks of the counts.
 unfoldable pub countsPass : List ℕ → Bool
 unfolding between
 countsPass t =
@@ -42,3 +29,7 @@ countsPass t =
     && (between 1 (stateCountIn t) (denseIn t)
     && (between 1 roomForPieces (pieceCountIn t)
     && between 1 roomForPhrases (phraseCountIn t)))
+
+unfoldable pub tablesPass : List ℕ → Bool
+unfolding countsPass
+tablesPass t = leb tablesSize (length t) && (eqb (numberAt 8 t tagAt) tablesTag && countsPass t)

@@ -2,13 +2,14 @@
 ghost use mathlib.Core.Path.{_≡_};
 ghost use Prim.Native.Nat.{_+_, _*_, _≤_, _<_};
 ghost use lib.ListN.{length};
+ghost use Rattle.format.specs.Faults.{between as betweenOf};
 ghost use Rattle.tables.specs.Layout.{tablesSize, roomForStates, roomForPieces, roomForPhrases};
 ghost use Rattle.tables.specs.Reads.{Whole, stateCountIn, denseIn, pieceCountIn, phraseCountIn, markIn};
 ghost use Rattle.tables.specs.Reads.{columnIn, cellIn, depthIn, gainIn};
 ghost use Rattle.tables.specs.Reads.{infoIn, outIn, labelIn, firstChildIn, endingIn, firstLinkIn, backIn};
 ghost use Rattle.tables.specs.Reads.{delayIn, spanIn, linkIn, rankIn, endsIn, onwardIn, lastIn, firstIn};
 ghost use Rattle.tables.specs.Reads.{phraseNumberIn, phraseRightsIn};
-ghost use Rattle.tables.specs.Passing.{between as betweenOf, countsPass, tablesPass};
+ghost use Rattle.tables.specs.Passing.{countsPass, tablesPass};
 use counters::Number;
 use counters::Rank;
 use counters::State;

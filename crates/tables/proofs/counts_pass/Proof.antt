@@ -2,8 +2,8 @@
 -- Assumes nothing.
 use mathlib.Core.Path.{_≡_, refl, sym, ap, _∙_}
 use borrow.Author.Tests.{not-true, not-false}
+use Rattle.format.specs.Faults.{between}
 use Rattle.tables.specs.Layout.{roomForPhrases}
-use Rattle.tables.specs.Passing.{between}
 use Rattle.tables.proofs.Passing.{tested, counts-states, counts-dense, counts-pieces, counts-phrases}
 use borrow.Author.Needs.{needs}
 use Rattle.tables.proofs.counts_pass.Statement.{statement}

@@ -2,14 +2,14 @@
 use mathlib.Core.Path.{_≡_}
 use Prim.Native.Nat.{_+_, _-_}
 use native.Mathlib.Omega.{arith}
+use Rattle.meaning.specs.Matching.{bytesAfter}
 use Rattle.format.specs.Prefixes.{commonPrefix}
-use Rattle.records.specs.Prefixes.{bytesFrom}
 use Rattle.records.proofs.Common.{rest, common-start, common-more, common-differ, common-ends, common-whole}
 use Rattle.records.proofs.prefixes.common.Statement.{statement}
 use Rattle.records.proofs.prefixes.common.Tie as tie
 
 abbrev Inv-loop : tie.InvT-loop
-Inv-loop book x m y n i₀ i = commonPrefix (bytesFrom x m book) (bytesFrom y n book) ≡ i + rest book x m y n i
+Inv-loop book x m y n i₀ i = commonPrefix (bytesAfter x m book) (bytesAfter y n book) ≡ i + rest book x m y n i
 
 abbrev μ-loop : tie.MeasureT-loop
 μ-loop book x m y n i₀ i = m - i

@@ -2,19 +2,19 @@
 use Prim.Native.Nat.{_-_}
 use native.Mathlib.Omega.{arith}
 use borrow.Author.Needs.{needs}
-use Rattle.records.specs.Prefixes.{bytesFrom}
+use Rattle.meaning.specs.Matching.{bytesAfter}
 use Rattle.records.proofs.Shared.{Sharing, read-inside, goes-ahead, sharing-start, sharing-more, sharing-done, shared-within}
 use Rattle.records.proofs.prefixes.most_shared.Statement.{statement}
 use Rattle.records.proofs.prefixes.most_shared.Tie as tie
 
 abbrev Inv-loop : tie.InvT-loop
-Inv-loop book end x m at₀ most₀ at most = Sharing book end (bytesFrom x m book) at most
+Inv-loop book end x m at₀ most₀ at most = Sharing book end (bytesAfter x m book) at most
 
 abbrev μ-loop : tie.MeasureT-loop
 μ-loop book end x m at₀ most₀ at most = end - at
 
 loop-holds : tie.Need-loop-holds Inv-loop μ-loop
-loop-holds c = let a = c .before .args in sharing-start (a .book .now) (a .end) (bytesFrom (a .x) (a .m) (a .book .now)) (omega arith)
+loop-holds c = let a = c .before .args in sharing-start (a .book .now) (a .end) (bytesAfter (a .x) (a .m) (a .book .now)) (omega arith)
 
 read-requires : tie.Need-read-requires Inv-loop μ-loop
 read-requires c κs = search needs
@@ -43,14 +43,14 @@ loop-again c =
     let read = c .before .before .before in
     let at = read .before .before in
     let a = at .before .before .args in
-    sharing-more (a .book .now) (a .end) (bytesFrom (a .x) (a .m) (a .book .now)) (at .loop .at) (at .loop .most) (at .loop .inv) (read .before .loop-test .taken)
+    sharing-more (a .book .now) (a .end) (bytesAfter (a .x) (a .m) (a .book .now)) (at .loop .at) (at .loop .most) (at .loop .inv) (read .before .loop-test .taken)
     (read .read .ensures .exact) (c .before .before .shared-with .ensures) (c .past .ensures) (c .before .larger .ensures)
 
 returns : tie.Need-returns Inv-loop μ-loop
 returns c =
     let at = c .before in
     let a = at .before .before .args in
-    let is = sharing-done (a .book .now) (a .end) (bytesFrom (a .x) (a .m) (a .book .now)) (at .loop .at) (at .loop .most) (at .loop .inv) (c .loop-test .left) in
+    let is = sharing-done (a .book .now) (a .end) (bytesAfter (a .x) (a .m) (a .book .now)) (at .loop .at) (at .loop .most) (at .loop .inv) (c .loop-test .left) in
     (is, rw is (shared-within (a .book .now) (a .end) (a .x) (a .m)))
 
 pub most-shared-spec : {M : Type 1} → statement M
