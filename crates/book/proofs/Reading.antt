@@ -20,6 +20,7 @@ use Rattle.format.proofs.FirstFault.{stands-iff}
 use Rattle.format.proofs.Kept.{leads-on}
 use Rattle.format.proofs.Reading.{answered, fault-refuses}
 use Rattle.format.proofs.Theorem.{judged-judges}
+use Rattle.counters.specs.Counters as counters
 use Rattle.records.specs.Refusals.{refusalFor}
 use Rattle.records.proofs.Names.{refusal-said}
 use Rattle.records.specs.declared.refusals.Refusal.{Refusal}
@@ -56,7 +57,7 @@ pub record Reading (bytes : List ℕ) (at : ℕ) (name : code.Stage) (tally : Ta
   pub enough : length bytes ≤ fuel + at
   pub rest : judgedFrom fuel stage at (drop at bytes) ≡ judged bytes
 
-pub reading-starts : (bytes : List ℕ) → Reading bytes 0 Start (record { phrases = 0; last = 0; own = 0; pieces = 0; prefixes = 0 })
+pub reading-starts : (bytes : List ℕ) → Reading bytes 0 Start (record { phrases = 0; last = counters.numberOf 0; own = 0; pieces = 0; prefixes = 0 })
 unfolding SoFar judged keywords phrasesAt nameOf
 reading-starts bytes = record {
   stage = start;

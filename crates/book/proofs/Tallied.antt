@@ -12,6 +12,7 @@ use Rattle.format.specs.Faults.{lastNumber, allowed, two}
 use Rattle.format.specs.Judged.{phraseOf, withPiece}
 use Rattle.format.proofs.Lists.{length-further}
 use Rattle.format.proofs.Counted.{count-pieces, keywords-named, keywords-further}
+use Rattle.counters.specs.Counters.{numberOf}
 use Rattle.book.specs.Judging.{Small, allowedOf}
 use Rattle.book.specs.Tallies.{nameOf, tallyOf}
 
@@ -35,13 +36,13 @@ last-further (first ∷ []) phrase = refl
 last-further (first ∷ second ∷ rest) phrase = last-further (second ∷ rest) phrase
 
 -- Nothing is counted before the header.
-pub start-tally : record { phrases = 0; last = 0; own = 0; pieces = 0; prefixes = 0 } ≡ tallyOf start
+pub start-tally : record { phrases = 0; last = numberOf 0; own = 0; pieces = 0; prefixes = 0 } ≡ tallyOf start
 unfolding tallyOf phrasesAt piecesAt lastNumber pieceCount keywords prefixCount
 start-tally = refl
 
 -- A further phrase, which has no pieces yet.
 pub named-tally : (phrases : List Phrase) (body : List ℕ)
-    → record { phrases = length phrases + 1; last = two body 0; own = 0; pieces = pieceCount phrases; prefixes = prefixCount (keywords phrases) }
+    → record { phrases = length phrases + 1; last = numberOf (two body 0); own = 0; pieces = pieceCount phrases; prefixes = prefixCount (keywords phrases) }
     ≡ tallyOf (named phrases (phraseOf body))
 unfolding tallyOf phrasesAt piecesAt phraseOf
 named-tally phrases body =
@@ -52,7 +53,7 @@ named-tally phrases body =
 pub worded-tally : (phrases : List Phrase) (phrase : Phrase) (gap : Gap) (body : List ℕ)
     → record {
       phrases = length (phrases ++ phrase ∷ []);
-      last = lastNumber (phrases ++ phrase ∷ []);
+      last = numberOf (lastNumber (phrases ++ phrase ∷ []));
       own = length (phrase .pieces) + 1;
       pieces = pieceCount (phrases ++ phrase ∷ []) + 1;
       prefixes = prefixCount (keywords (phrases ++ phrase ∷ []) ++ body ∷ []);

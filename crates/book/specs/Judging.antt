@@ -60,9 +60,9 @@ headerTurn tally edition = cond (not (eqb edition theEdition)) (Refused Field) (
 unfoldable pub phraseTurn : Tally → Number → ℕ → Turn
 phraseTurn tally number rights =
     cond (not (between 1 mostNumber (number .0) && between 1 mostRights rights)) (Refused Field)
-    (cond (leb (number .0) (tally .last)) (Refused Order)
+    (cond (leb (number .0) (tally .last .0)) (Refused Order)
     (cond (leb mostPhrases (tally .phrases)) (Refused Many)
-    (Next Named (record { phrases = tally .phrases + 1; last = number .0; own = 0; pieces = tally .pieces; prefixes = tally .prefixes }))))
+    (Next Named (record { phrases = tally .phrases + 1; last = number; own = 0; pieces = tally .pieces; prefixes = tally .prefixes }))))
 
 -- At most 8 pieces in a phrase and 256 in a book; a gap is the first record of its piece.
 unfoldable pub gapTurn : Tally → Turn

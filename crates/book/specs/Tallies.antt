@@ -8,6 +8,7 @@ use Rattle.format.specs.Refusals.{Refusal}
 use Rattle.format.specs.Stages as format
 use Rattle.format.specs.Stages.{start, headed, named, gapped, worded, ended, phrasesAt, piecesAt}
 use Rattle.format.specs.Faults.{lastNumber}
+use Rattle.counters.specs.Counters.{numberOf}
 use Rattle.records.specs.Refusals.{refusalFor}
 use Rattle.book.specs.declared.progress.Stage.{Stage}
 use Rattle.book.specs.declared.progress.Stage.the-variants.{Start, Headed, Named, Gapped, Worded, Ended}
@@ -29,7 +30,7 @@ nameOf (ended phrases) = Ended
 unfoldable pub tallyOf : format.Stage → Tally
 tallyOf stage = record {
   phrases = length (phrasesAt stage);
-  last = lastNumber (phrasesAt stage);
+  last = numberOf (lastNumber (phrasesAt stage));
   own = length (piecesAt stage);
   pieces = pieceCount (phrasesAt stage);
   prefixes = prefixCount (keywords (phrasesAt stage));

@@ -17,6 +17,7 @@ use crate::turns::end;
 use crate::turns::header;
 use crate::turns::keyword;
 use crate::turns::stop;
+use counters::Number;
 use records::Cursor;
 use records::Found;
 use records::Refusal;
@@ -64,7 +65,7 @@ pub fn judge(book: &[u8]) -> Judged
     let mut stage = Stage::Start;
     let mut tally = Tally {
         phrases: 0,
-        last: 0,
+        last: Number::NONE,
         own: 0,
         pieces: 0,
         prefixes: 0,

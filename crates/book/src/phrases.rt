@@ -13,22 +13,21 @@ use counters::Number;
 use records::Refusal;
 
 // Are a phrase's number and rights code in range? No number of two bytes is above the largest phrase number.
-fn in_range(number: u16, rights: u8) -> bool
-    ensures { λ r. ⌜ r ≡ between 1 mostNumber number && between 1 mostRights rights ⌝ }
+fn in_range(number: Number, rights: u8) -> bool
+    ensures { λ r. ⌜ r ≡ between 1 mostNumber (number .0) && between 1 mostRights rights ⌝ }
 {
-    1 <= number && 1 <= rights && rights <= MOST_RIGHTS
+    1 <= number.value() && 1 <= rights && rights <= MOST_RIGHTS
 }
 
 pub fn phrase(mut tally: Tally, number: Number, rights: u8) -> Turn
     ensures { λ r. ⌜ r ≡ phraseTurn tally number rights ⌝ }
 {
-    let this = number.value();
-    if !in_range(this, rights) {
+    if !in_range(number, rights) {
         return Turn::Refused {
             why: Refusal::Field,
         };
     }
-    if this <= tally.last {
+    if !number.is_above(tally.last) {
         return Turn::Refused {
             why: Refusal::Order,
         };
@@ -37,7 +36,7 @@ pub fn phrase(mut tally: Tally, number: Number, rights: u8) -> Turn
         return Turn::Refused { why: Refusal::Many };
     }
     tally.phrases += 1;
-    tally.last = this;
+    tally.last = number;
     tally.own = 0;
     Turn::Next {
         stage: Stage::Named,

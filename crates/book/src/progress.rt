@@ -1,6 +1,7 @@
 // How far a book has been read, and what judge counts of what it has read.
 ghost use mathlib.Core.Path.{_≡_};
 ghost use Rattle.book.specs.Judging.{allowedOf, mayStopAt};
+use counters::Number;
 use records::Refusal;
 use records::kinds::END_KIND;
 use records::kinds::HEADER_KIND;
@@ -26,9 +27,9 @@ pub enum Stage {
 
 // What is counted of the records read so far, and one number.
 pub struct Tally {
-    // The phrases, the last one perhaps not whole, and the number of that one, 0 where there is none.
+    // The phrases, the last one perhaps not whole, and the number of that one, `NONE` where there is none.
     pub phrases: usize,
-    pub last: u16,
+    pub last: Number,
     // The whole pieces of the last phrase, and those of the book.
     pub own: usize,
     pub pieces: usize,

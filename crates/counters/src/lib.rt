@@ -89,6 +89,9 @@ impl Place {
 }
 
 impl Number {
+    // What stands where there is no phrase: in a book no phrase has this number.
+    pub const NONE: Number = Number(0);
+
     pub fn of(n: u16) -> Number
         ensures { λ r. ⌜ r .0 ≡ n ⌝ }
     {
@@ -99,6 +102,12 @@ impl Number {
         ensures { λ r. ⌜ r ≡ self .0 ⌝ }
     {
         self.0
+    }
+
+    pub fn is_above(self, other: Number) -> bool
+        ensures { λ r. ⌜ r ≡ ltb (other .0) (self .0) ⌝ }
+    {
+        other.0 < self.0
     }
 }
 

@@ -1,10 +1,11 @@
 -- A search over the phrases, in rest form: the code of the phrases from here on is the code of all.
 -- Assumes nothing.
 use mathlib.Core.Path.{_≡_, refl, sym, ap, _∙_}
+use mathlib.Core.Bool.{Bool, true, false}
 use mathlib.Core.List.{List}
 use Prim.Native.Nat.{ℕ, zero, suc, _+_, _-_, _≤_, _<_}
 use native.Mathlib.Omega.{arith}
-use borrow.Author.Tests.{eq-eqb, ne-eqb}
+use lib.Dec.{eqb}
 use Rattle.tables.specs.Reads.{phraseCountIn, phraseNumberIn}
 use Rattle.lines.specs.Rights.{codeFound, rightsFrom, rightsIn}
 
@@ -13,15 +14,15 @@ module _ (t : List ℕ) (number phrases : ℕ) where
   unfolding rightsIn
   search-start counted = ap (rightsFrom t number 0) (omega (arith, counted))
 
-  found : (j : ℕ) → j < phrases → phraseNumberIn t j ≡ number → rightsFrom t number j (phrases - j) ≡ codeFound t j
+  found : (j : ℕ) → j < phrases → eqb (phraseNumberIn t j) number ≡ true → rightsFrom t number j (phrases - j) ≡ codeFound t j
   unfolding rightsFrom
   found j inside same = go (phrases - j) refl
     where
       go : (left : ℕ) → left ≡ phrases - j → rightsFrom t number j left ≡ codeFound t j
       go zero e = absurd (omega arith)
-      go (suc left) e = rw (eq-eqb (phraseNumberIn t j) number same)
+      go (suc left) e = rw same
 
-  next : (j : ℕ) → j < phrases → (phraseNumberIn t j ≡ number → ⊥)
+  next : (j : ℕ) → j < phrases → eqb (phraseNumberIn t j) number ≡ false
       → rightsFrom t number (j + 1) (phrases - (j + 1)) ≡ rightsFrom t number j (phrases - j)
   unfolding rightsFrom
   next j inside other = go (phrases - j) refl (phrases - (j + 1)) refl
@@ -30,7 +31,7 @@ module _ (t : List ℕ) (number phrases : ℕ) where
       go zero e later f = absurd (omega arith)
       go (suc left) e later f =
           let same : later ≡ left = omega arith in
-          rw (ne-eqb (phraseNumberIn t j) number other, same)
+          rw (other, same)
 
   pub search-end : (j : ℕ) → phrases ≤ j → 0 ≡ rightsFrom t number j (phrases - j)
   unfolding rightsFrom
@@ -41,9 +42,9 @@ module _ (t : List ℕ) (number phrases : ℕ) where
       go (suc left) e = absurd (omega arith)
 
   -- A turn looks at the phrase of rank j: its number is the wanted one, or it is not.
-  module _ (j value : ℕ) (inside : j < phrases) (read : value ≡ phraseNumberIn t j) where
-    pub turn-found : value ≡ number → (code : ℕ) → code ≡ codeFound t j → code ≡ rightsFrom t number j (phrases - j)
-    turn-found same code its = its ∙ sym (found j inside (sym read ∙ same))
+  module _ (j : ℕ) (inside : j < phrases) {has : Bool} (test : has ≡ eqb (phraseNumberIn t j) number) where
+    pub turn-found : has ≡ true → (code : ℕ) → code ≡ codeFound t j → code ≡ rightsFrom t number j (phrases - j)
+    turn-found same code its = its ∙ sym (found j inside (sym test ∙ same))
 
-    pub turn-next : (value ≡ number → ⊥) → rightsFrom t number (j + 1) (phrases - (j + 1)) ≡ rightsFrom t number j (phrases - j)
-    turn-next other = next j inside (λ e. other (read ∙ e))
+    pub turn-next : has ≡ false → rightsFrom t number (j + 1) (phrases - (j + 1)) ≡ rightsFrom t number j (phrases - j)
+    turn-next other = next j inside (sym test ∙ other)

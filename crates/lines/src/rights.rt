@@ -1,17 +1,19 @@
 // The rights code of a phrase, found by the phrase number. The phrases stand in the tables by their rank.
 ghost use mathlib.Core.Path.{_≡_};
 ghost use Prim.Native.Nat.{_≤_, _<_};
+ghost use lib.Dec.{eqb};
 ghost use Rattle.tables.specs.Layout.{roomForPhrases};
 ghost use Rattle.tables.specs.Reads.{Whole, phraseCountIn, phraseNumberIn, phraseRightsIn};
 ghost use Rattle.lines.specs.Rights.{rightsIn};
 use counters::Number;
 use counters::Rank;
 
-fn number_at(t: &[u8], j: usize) -> u16
+// Does the phrase with a rank have a number?
+fn has_number(t: &[u8], j: usize, number: Number) -> bool
     requires { ⌜ (Whole (now t)) × (j < roomForPhrases) ⌝ }
-    ensures { λ r. ⌜ r ≡ phraseNumberIn (now (t .entry)) j ⌝ }
+    ensures { λ r. ⌜ r ≡ eqb (phraseNumberIn (now (t .entry)) j) (number .0) ⌝ }
 {
-    tables::phrase_number(t, Rank::of(j as u8)).value()
+    tables::phrase_number(t, Rank::of(j as u8)).value() == number.value()
 }
 
 fn code_at(t: &[u8], j: usize) -> u64
@@ -27,10 +29,9 @@ pub(crate) fn rights_of(t: &[u8], number: Number) -> u64
     ensures { λ r. ⌜ r ≡ rightsIn (now (t .entry)) (number .0) ⌝ }
 {
     let phrases = tables::phrase_count(t);
-    let wanted = number.value();
     let mut j = 0;
     while j < phrases {
-        if number_at(t, j) == wanted {
+        if has_number(t, j, number) {
             return code_at(t, j);
         }
         j += 1;

@@ -1,6 +1,6 @@
 -- In each turn the code of the phrases from here on is that of all. The measure is how many phrases are left to look at.
 -- Assumes nothing.
-use mathlib.Core.Path.{_≡_, ap, _∙_}
+use mathlib.Core.Path.{_≡_, _∙_}
 use Prim.Native.Nat.{_-_, _≤_}
 use native.Mathlib.Omega.{arith}
 use Rattle.tables.specs.Reads.{phraseCountIn}
@@ -11,36 +11,32 @@ use Rattle.lines.proofs.rights.rights_of.Statement.{statement}
 use Rattle.lines.proofs.rights.rights_of.Tie as tie
 
 abbrev Inv-loop : tie.InvT-loop
-Inv-loop t phrases wanted j₀ j =
-    (phrases ≡ phraseCountIn t) × (j ≤ phrases) × (rightsFrom t wanted j (phrases - j) ≡ rightsIn t wanted)
+Inv-loop t number phrases j₀ j =
+    (phrases ≡ phraseCountIn t) × (j ≤ phrases) × (rightsFrom t (number .0) j (phrases - j) ≡ rightsIn t (number .0))
 
 abbrev μ-loop : tie.MeasureT-loop
-μ-loop t phrases wanted j₀ j = phrases - j
+μ-loop t number phrases j₀ j = phrases - j
 
 phrase-count-requires : tie.Need-phrase-count-requires Inv-loop μ-loop
 phrase-count-requires c κs = search needs
 
-value-requires : tie.Need-value-requires Inv-loop μ-loop
-value-requires c κs = search needs
-
 loop-holds : tie.Need-loop-holds Inv-loop μ-loop
 loop-holds c =
-    let a = c .before .before .before .args in
-    (c .before .phrase-count .ensures .0, omega arith, search-start (a .t .now) _ _ (c .before .phrase-count .ensures .0))
+    let a = c .before .before .args in
+    (c .phrase-count .ensures .0, omega arith, search-start (a .t .now) (a .number .0) _ (c .phrase-count .ensures .0))
 
-number-at-requires : tie.Need-number-at-requires Inv-loop μ-loop
-number-at-requires c κs = search needs
+has-number-requires : tie.Need-has-number-requires Inv-loop μ-loop
+has-number-requires c κs = search needs
 
 code-at-requires : tie.Need-code-at-requires Inv-loop μ-loop
 code-at-requires c κs = search needs
 
 returns : tie.Need-returns Inv-loop μ-loop
 returns c =
-    let a = c .before .before .before .before .before .before .before .before .args in
+    let a = c .before .before .before .before .before .before .before .args in
     let at = c .before .before .before .before .loop in
-    turn-found (a .t .now) _ _ (at .j) _ (omega arith) (c .before .before .number-at .ensures) (c .before .if1 .taken) _ (c .code-at .ensures)
+    turn-found (a .t .now) (a .number .0) _ (at .j) (omega arith) (c .before .before .has-number .ensures) (c .before .if1 .taken) _ (c .code-at .ensures)
     ∙ at .inv .2
-    ∙ ap (rightsIn (a .t .now)) (c .before .before .before .before .before .value .ensures)
 
 add-j : tie.Need-add-j Inv-loop μ-loop
 add-j c = omega arith
@@ -50,15 +46,15 @@ loop-less c = omega arith
 
 loop-again : tie.Need-loop-again Inv-loop μ-loop
 loop-again c =
-    let a = c .before .before .before .before .before .before .before .args in
+    let a = c .before .before .before .before .before .before .args in
     let at = c .before .before .before .loop in
-    (at .inv .0, omega arith, turn-next (a .t .now) _ _ (at .j) _ (omega arith) (c .before .number-at .ensures) (c .if1 .left) ∙ at .inv .2)
+    (at .inv .0, omega arith, turn-next (a .t .now) (a .number .0) _ (at .j) (omega arith) (c .before .has-number .ensures) (c .if1 .left) ∙ at .inv .2)
 
 returns-2 : tie.Need-returns-2 Inv-loop μ-loop
 returns-2 c =
-    let a = c .before .before .before .before .before .args in
+    let a = c .before .before .before .before .args in
     let at = c .before .loop in
-    search-end (a .t .now) _ _ (at .j) (omega arith) ∙ at .inv .2 ∙ ap (rightsIn (a .t .now)) (c .before .before .value .ensures)
+    search-end (a .t .now) (a .number .0) _ (at .j) (omega arith) ∙ at .inv .2
 
 pub rights-of-spec : {M : Type 1} → statement M
 rights-of-spec =
@@ -67,9 +63,8 @@ rights-of-spec =
     Inv-loop
     μ-loop
     phrase-count-requires
-    value-requires
     loop-holds
-    number-at-requires
+    has-number-requires
     code-at-requires
     returns
     add-j
