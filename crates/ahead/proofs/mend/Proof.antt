@@ -4,11 +4,9 @@ use mathlib.Core.Path.{_≡_, refl}
 use Prim.Native.Nat.{_+_, _-_, _≤_, _<_}
 use native.Mathlib.Omega.{arith}
 use lib.ListN.{getD}
-use Rattle.tables.specs.Layout.{roomForStates}
 use Rattle.tables.specs.Reads.{stateCountIn, denseIn}
 use Rattle.ahead.specs.Ahead.{Mended}
-use Rattle.ahead.proofs.Turns.{column-of}
-use Rattle.ahead.proofs.Runs.{mended-none, mended-more, mended-same}
+use Rattle.ahead.proofs.Runs.{next-ready, mended-none, mended-more, mended-same}
 use Rattle.ahead.proofs.mend.Statement.{statement}
 use Rattle.ahead.proofs.mend.Tie as tie
 
@@ -49,18 +47,11 @@ next-of-requires : tie.Need-next-of-requires Inv-loop μ-loop
 next-of-requires c κs =
     let entry = c .before .before .before .before .before .before .before .before .before .before in
     let a = entry .args in
-    let ready = entry .pre .0 in
     let at = c .before .before .before in
     let inv = at .loop .inv in
-    let few : at .before .dense .result ≤ roomForStates = omega (arith, inv .1, inv .2, ready .few-dense, ready .few-states) in
-    let place = a .from + at .loop .i in (
-      ready .tables,
-      omega (arith, inv .1, ready .few-states),
-      omega (arith, inv .2, ready .some-dense),
-      omega (arith, inv .1, inv .2, ready .few-dense),
-      inv .3,
-      column-of (a .t .now) _ (getD (a .part .now) place 0) _ (ready .columns) (inv .2) few (omega (arith, c .before .shared-slice-known3 .given place)) (c .column .ensures .0),
-    )
+    let place = a .from + at .loop .i in
+    next-ready (a .t .now) (a .part .now) _ _ (inv .1) (inv .2) (a .from) (a .quarter) (a .k) (a .state) _ (getD (a .part .now) place 0) _ _ (entry .pre .0) (inv .3)
+    (omega (arith, c .before .shared-slice-known3 .given place)) (c .column .ensures .0)
 
 cast-ahead : tie.Need-cast-ahead Inv-loop μ-loop
 cast-ahead c = omega (arith, c .next-of .ensures .1, c .before .before .before .before .loop .inv .1, c .before .before .before .before .before .before .before .before .before .before .before .pre .0 .few-states)
