@@ -51,7 +51,7 @@ module _ (t part : List ℕ) where
         (rw one at (ran .listed 1 (omega arith)), rw one at (ran .ended 1 (omega arith)))
 
   -- A quarter that is looked up alone ends in one of the states.
-  mended-inside : (from quarter k state end : ℕ) (before after : List ℕ) → Mended t part from quarter k state end before after → state < stateCountIn t → end < stateCountIn t
+  pub mended-inside : (from quarter k state end : ℕ) (before after : List ℕ) → Mended t part from quarter k state end before after → state < stateCountIn t → end < stateCountIn t
   mended-inside from quarter k state end before after mended inside = omega (arith, mended .ended, after-inside t part from state quarter inside)
 
   -- What holds before quarter k is looked up again: it is listed from where its cursor began, and the cursor ended where that leads to.
@@ -68,24 +68,21 @@ module _ (t part : List ℕ) where
           second .1,
         )
 
-    module _ (a₂ : List ℕ) (second : ℕ) (mended₁ : Mended t part (first + quarter) quarter 1 (end .first) second a₁ a₂) where
-      second-inside : second < stateCountIn t
-      second-inside = mended-inside (first + quarter) quarter 1 (end .first) second a₁ a₂ mended₁ (ran .inside .first)
-
-      pub third-ready : Ready quarter (first + 2 * quarter) 2 second (start .third) (end .third) a₂
-      third-ready = (
-        again-ready t part first quarter state ahead ready a₂ (mended₁ .long ∙ ran .long ∙ long) (first + 2 * quarter) 2 second (omega arith) second-inside (omega (arith, ready .least)),
-        listed-kept (first + 2 * quarter) (start .third) quarter 2 1 a₁ a₂ (first + quarter) (end .first) second (omega arith) (λ e. omega arith) (ran .listed 2 (omega arith)) mended₁,
+    -- Whatever the quarters before were looked up again from.
+    module _ (a₂ : List ℕ) (from₁ at₁ end₁ : ℕ) (mended₁ : Mended t part from₁ quarter 1 at₁ end₁ a₁ a₂) where
+      pub third-ready : (at : ℕ) → at < stateCountIn t → Ready quarter (first + 2 * quarter) 2 at (start .third) (end .third) a₂
+      third-ready at inside = (
+        again-ready t part first quarter state ahead ready a₂ (mended₁ .long ∙ ran .long ∙ long) (first + 2 * quarter) 2 at (omega arith) inside (omega (arith, ready .least)),
+        listed-kept (first + 2 * quarter) (start .third) quarter 2 1 a₁ a₂ from₁ at₁ end₁ (omega arith) (λ e. omega arith) (ran .listed 2 (omega arith)) mended₁,
         ran .ended 2 (omega arith),
       )
 
-      module _ (a₃ : List ℕ) (third : ℕ) (mended₂ : Mended t part (first + 2 * quarter) quarter 2 second third a₂ a₃) where
-        pub fourth-ready : Ready quarter (first + 3 * quarter) 3 third (start .fourth) (end .fourth) a₃
-        fourth-ready =
-            let inside = mended-inside (first + 2 * quarter) quarter 2 second third a₂ a₃ mended₂ second-inside in
-            let kept = listed-kept (first + 3 * quarter) (start .fourth) quarter 3 1 a₁ a₂ (first + quarter) (end .first) second (omega arith) (λ e. omega arith) (ran .listed 3 (omega arith)) mended₁ in (
-              again-ready t part first quarter state ahead ready a₃ (mended₂ .long ∙ mended₁ .long ∙ ran .long ∙ long) (first + 3 * quarter) 3 third (omega arith) inside (omega (arith, ready .least)),
-              listed-kept (first + 3 * quarter) (start .fourth) quarter 3 2 a₂ a₃ (first + 2 * quarter) second third (omega arith) (λ e. omega arith) kept mended₂,
+      module _ (a₃ : List ℕ) (from₂ at₂ end₂ : ℕ) (mended₂ : Mended t part from₂ quarter 2 at₂ end₂ a₂ a₃) where
+        pub fourth-ready : (at : ℕ) → at < stateCountIn t → Ready quarter (first + 3 * quarter) 3 at (start .fourth) (end .fourth) a₃
+        fourth-ready at inside =
+            let kept = listed-kept (first + 3 * quarter) (start .fourth) quarter 3 1 a₁ a₂ from₁ at₁ end₁ (omega arith) (λ e. omega arith) (ran .listed 3 (omega arith)) mended₁ in (
+              again-ready t part first quarter state ahead ready a₃ (mended₂ .long ∙ mended₁ .long ∙ ran .long ∙ long) (first + 3 * quarter) 3 at (omega arith) inside (omega (arith, ready .least)),
+              listed-kept (first + 3 * quarter) (start .fourth) quarter 3 2 a₂ a₃ from₂ at₂ end₂ (omega arith) (λ e. omega arith) kept mended₂,
               ran .ended 3 (omega arith),
             )
 

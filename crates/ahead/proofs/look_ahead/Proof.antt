@@ -4,7 +4,7 @@ use mathlib.Core.Path.{_∙_}
 use Prim.Native.Nat.{_*_}
 use native.Mathlib.Omega.{arith}
 use Rattle.ahead.proofs.Runs.{kept-over}
-use Rattle.ahead.proofs.Quarters.{run-ready, second-ready, third-ready, fourth-ready, looked}
+use Rattle.ahead.proofs.Quarters.{run-ready, second-ready, third-ready, fourth-ready, mended-inside, looked}
 use Rattle.ahead.proofs.look_ahead.Statement.{statement}
 use Rattle.ahead.proofs.look_ahead.Tie as tie
 
@@ -39,7 +39,10 @@ mend-requires-2 c κs =
     let entry = c .before .before .before .before .before .before .before .before .before .before .before .before .before .before .before .before in
     let a = entry .args in
     let guess = c .before .before .before .before .before .before .before .before .before .before .before .guessed .ensures in
-    third-ready (a .t .now) (a .part .now) (a .first) (a .quarter) (a .state .0) _ _ _ _ _ (entry .pre) (guess .long) (c .before .before .before .before .before .before .before .run-four .ensures) _ _ (c .before .before .before .mend .ensures)
+    let ran = c .before .before .before .before .before .before .before .run-four .ensures in
+    let mended = c .before .before .before .mend .ensures in
+    let inside = mended-inside (a .t .now) (a .part .now) _ _ _ _ _ _ _ mended (ran .inside .first) in
+    third-ready (a .t .now) (a .part .now) (a .first) (a .quarter) (a .state .0) _ _ _ _ _ (entry .pre) (guess .long) ran _ _ _ _ mended _ (omega (arith, inside))
 
 mul-mend-2 : tie.Need-mul-mend-2
 mul-mend-2 c = omega (arith, c .before .before .before .before .before .before .before .before .before .before .before .before .before .before .before .before .before .before .before .pre .most)
@@ -52,7 +55,11 @@ mend-requires-3 c κs =
     let entry = c .before .before .before .before .before .before .before .before .before .before .before .before .before .before .before .before .before .before .before .before in
     let a = entry .args in
     let guess = c .before .before .before .before .before .before .before .before .before .before .before .before .before .before .before .guessed .ensures in
-    fourth-ready (a .t .now) (a .part .now) (a .first) (a .quarter) (a .state .0) _ _ _ _ _ (entry .pre) (guess .long) (c .before .before .before .before .before .before .before .before .before .before .before .run-four .ensures) _ _ (c .before .before .before .before .before .before .before .mend .ensures) _ _ (c .before .before .before .mend2 .ensures)
+    let ran = c .before .before .before .before .before .before .before .before .before .before .before .run-four .ensures in
+    let mended = c .before .before .before .before .before .before .before .mend .ensures in
+    let again = c .before .before .before .mend2 .ensures in
+    let inside = mended-inside (a .t .now) (a .part .now) _ _ _ _ _ _ _ mended (ran .inside .first) in
+    fourth-ready (a .t .now) (a .part .now) (a .first) (a .quarter) (a .state .0) _ _ _ _ _ (entry .pre) (guess .long) ran _ _ _ _ mended _ _ _ _ again _ (mended-inside (a .t .now) (a .part .now) _ _ _ _ _ _ _ again (omega (arith, inside)))
 
 same-length : tie.Need-same-length
 same-length c = c .before .before .mend3 .ensures .long ∙ c .before .before .before .before .before .before .mend2 .ensures .long ∙ c .before .before .before .before .before .before .before .before .before .before .mend .ensures .long ∙ c .before .before .before .before .before .before .before .before .before .before .before .before .before .before .run-four .ensures .long ∙ c .before .before .before .before .before .before .before .before .before .before .before .before .before .before .before .before .before .before .guessed .ensures .long
