@@ -25,7 +25,7 @@ module _ (t part : List ℕ) (first quarter state : ℕ) (ahead : List ℕ) (rea
     room = omega (arith, ready .room, long);
   }
 
-  pub again-ready : (from k at : ℕ) → k < 4 → at < stateCountIn t → from + quarter ≤ first + 4 * quarter → AgainReady t part from quarter k at now
+  again-ready : (from k at : ℕ) → k < 4 → at < stateCountIn t → from + quarter ≤ first + 4 * quarter → AgainReady t part from quarter k at now
   again-ready from k at few inside before = record {
     tables = ready .tables;
     few-states = ready .few-states;
@@ -40,12 +40,12 @@ module _ (t part : List ℕ) (first quarter state : ℕ) (ahead : List ℕ) (rea
 
 module _ (t part : List ℕ) where
   -- A quarter whose numbers are as they were is still listed.
-  pub listed-kept : (from state count k l : ℕ) (ahead after : List ℕ) (quarter other end : ℕ) → k < 4 → (k ≡ l → ⊥) → Listed t part from state count k ahead
+  listed-kept : (from state count k l : ℕ) (ahead after : List ℕ) (quarter other end : ℕ) → k < 4 → (k ≡ l → ⊥) → Listed t part from state count k ahead
       → Mended t part quarter count l other end ahead after → Listed t part from state count k after
   listed-kept from state count k l ahead after quarter other end few apart listed mended = record { each = λ j m. mended .others k j few apart ∙ listed .each j m }
 
   module _ (first quarter count : ℕ) (start end : Cursors) (before after : List ℕ) (ran : Ran t part first quarter count start end before after) where
-    pub ran-second : (Listed t part (first + quarter) (start .second) count 1 after) × (end .second ≡ afterFrom t part (first + quarter) (start .second) count)
+    ran-second : (Listed t part (first + quarter) (start .second) count 1 after) × (end .second ≡ afterFrom t part (first + quarter) (start .second) count)
     ran-second =
         let one : first + 1 * quarter ≡ first + quarter = omega arith in
         (rw one at (ran .listed 1 (omega arith)), rw one at (ran .ended 1 (omega arith)))
@@ -53,6 +53,38 @@ module _ (t part : List ℕ) where
   -- A quarter that is looked up alone ends in one of the states.
   pub mended-inside : (from quarter k state end : ℕ) (before after : List ℕ) → Mended t part from quarter k state end before after → state < stateCountIn t → end < stateCountIn t
   mended-inside from quarter k state end before after mended inside = omega (arith, mended .ended, after-inside t part from state quarter inside)
+
+  -- What holds before quarter k is looked up again: it is listed from where its cursor began, and the cursor ended where that leads to.
+  abbrev Ready : ℕ → ℕ → ℕ → ℕ → ℕ → ℕ → List ℕ → Type 0
+  Ready quarter from k at began ended now = AgainReady t part from quarter k at now × Listed t part from began quarter k now × (ended ≡ afterFrom t part from began quarter)
+
+  module _ (first quarter state : ℕ) (start end : Cursors) (ahead a₀ a₁ : List ℕ) (ready : LookReady t part first quarter state ahead) (long : length a₀ ≡ length ahead)
+      (ran : Ran t part first quarter quarter start end a₀ a₁) where
+    pub second-ready : Ready quarter (first + quarter) 1 (end .first) (start .second) (end .second) a₁
+    second-ready =
+        let second = ran-second first quarter quarter start end a₀ a₁ ran in (
+          again-ready t part first quarter state ahead ready a₁ (ran .long ∙ long) (first + quarter) 1 (end .first) (omega arith) (ran .inside .first) (omega (arith, ready .least)),
+          second .0,
+          second .1,
+        )
+
+    -- Whatever the quarters before were looked up again from.
+    module _ (a₂ : List ℕ) (from₁ at₁ end₁ : ℕ) (mended₁ : Mended t part from₁ quarter 1 at₁ end₁ a₁ a₂) where
+      pub third-ready : (at : ℕ) → at < stateCountIn t → Ready quarter (first + 2 * quarter) 2 at (start .third) (end .third) a₂
+      third-ready at inside = (
+        again-ready t part first quarter state ahead ready a₂ (mended₁ .long ∙ ran .long ∙ long) (first + 2 * quarter) 2 at (omega arith) inside (omega (arith, ready .least)),
+        listed-kept (first + 2 * quarter) (start .third) quarter 2 1 a₁ a₂ from₁ at₁ end₁ (omega arith) (λ e. omega arith) (ran .listed 2 (omega arith)) mended₁,
+        ran .ended 2 (omega arith),
+      )
+
+      module _ (a₃ : List ℕ) (from₂ at₂ end₂ : ℕ) (mended₂ : Mended t part from₂ quarter 2 at₂ end₂ a₂ a₃) where
+        pub fourth-ready : (at : ℕ) → at < stateCountIn t → Ready quarter (first + 3 * quarter) 3 at (start .fourth) (end .fourth) a₃
+        fourth-ready at inside =
+            let kept = listed-kept (first + 3 * quarter) (start .fourth) quarter 3 1 a₁ a₂ from₁ at₁ end₁ (omega arith) (λ e. omega arith) (ran .listed 3 (omega arith)) mended₁ in (
+              again-ready t part first quarter state ahead ready a₃ (mended₂ .long ∙ mended₁ .long ∙ ran .long ∙ long) (first + 3 * quarter) 3 at (omega arith) inside (omega (arith, ready .least)),
+              listed-kept (first + 3 * quarter) (start .fourth) quarter 3 2 a₂ a₃ from₂ at₂ end₂ (omega arith) (λ e. omega arith) kept mended₂,
+              ran .ended 3 (omega arith),
+            )
 
   module _ (first quarter state : ℕ) (start end : Cursors) (a₀ a₁ a₂ a₃ a₄ : List ℕ) (second third fourth : ℕ) (begun : start .first ≡ state)
       (ran : Ran t part first quarter quarter start end a₀ a₁)

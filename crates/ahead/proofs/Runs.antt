@@ -1,6 +1,6 @@
 -- Turn by turn: each turn takes one byte more of each quarter, and writes over nothing that is listed already.
 -- Assumes nothing.
-use mathlib.Core.Path.{_≡_, refl, sym, ap, ap₂, _∙_}
+use mathlib.Core.Path.{_≡_, refl, sym, ap, ap₂, subst, _∙_}
 use mathlib.Core.Logic.{⊎-elim}
 use mathlib.Core.List.{List}
 use Prim.Native.Nat.{ℕ, zero, suc, _+_, _*_, _≤_, _<_}
@@ -8,14 +8,15 @@ use native.Mathlib.Omega.{arith}
 use lib.ListN.{length, getD, set, length-set}
 use lib.Seq.{getD-set-same, getD-set-other}
 use Rattle.lent.proofs.Cases.{eq-or-ne}
-use Rattle.tables.specs.Reads.{stateCountIn, denseIn}
+use Rattle.tables.specs.Layout.{roomForStates}
+use Rattle.tables.specs.Reads.{Whole, stateCountIn, denseIn, columnIn}
 use Rattle.seeking.specs.Quick.{quickIn}
 use Rattle.seeking.specs.Foreseen.{afterFrom}
 use Rattle.seeking.proofs.Foreseen.{after-more}
-use Rattle.ahead.specs.Cursors.{cursor, Below, Turned, withFour}
-use Rattle.ahead.specs.Ahead.{Listed, KeptFrom, Ran, Mended}
+use Rattle.ahead.specs.Cursors.{cursor, Below, ColumnOf, TurnReady, Turned, withFour}
+use Rattle.ahead.specs.Ahead.{Listed, KeptFrom, RunReady, Ran, AgainReady, Mended}
 use Rattle.ahead.specs.declared.turn.Cursors.{Cursors}
-use Rattle.ahead.proofs.Turns.{turned-each, length-four, four-there, four-others}
+use Rattle.ahead.proofs.Turns.{column-of, turned-each, length-four, four-there, four-others}
 
 -- Nothing was written.
 pub kept-none : (from : ℕ) (ahead : List ℕ) → KeptFrom from ahead ahead
@@ -24,6 +25,34 @@ kept-none from ahead = record { each = λ i l. refl }
 -- What neither of two calls wrote is as it was, where the first wrote no farther than the second.
 pub kept-over : (from early : ℕ) (before between after : List ℕ) → early ≤ from → KeptFrom early before between → KeptFrom from between after → KeptFrom from before after
 kept-over from early before between after less first then = record { each = λ i l. then .each i l ∙ first .each i (omega arith) }
+
+module _ (t part : List ℕ) (states dense : ℕ) (counted : states ≡ stateCountIn t) (rows : dense ≡ denseIn t) where
+  -- What holds before so many turns holds before each of them,
+  pub turn-ready : (first quarter count i : ℕ) (ahead : List ℕ) (from : Cursors) → RunReady t part first quarter count ahead → Below (stateCountIn t) from → i < count
+      → TurnReady t part states dense (first + i) quarter from
+  turn-ready first quarter count i ahead from ready inside more = record {
+    tables = ready .tables;
+    counted = counted;
+    rows = rows;
+    few-states = omega (arith, ready .few-states);
+    some-dense = omega (arith, ready .some-dense);
+    few-dense = omega (arith, ready .few-dense);
+    columns = ready .columns;
+    inside = subst (λ (n : ℕ). Below n from) (sym counted) inside;
+    within = omega (arith, ready .within);
+  }
+
+  -- and what holds before a quarter is looked up alone before each of its bytes.
+  pub next-ready : (from quarter k state index byte column : ℕ) (ahead : List ℕ) → AgainReady t part from quarter k state ahead → index < states → byte < 256 → column ≡ columnIn t byte
+      → (Whole t) × (states ≤ roomForStates) × (1 ≤ dense) × (dense ≤ states) × (index < states) × (ColumnOf t dense byte column)
+  next-ready from quarter k state index byte column ahead ready inside small is = (
+    ready .tables,
+    omega (arith, ready .few-states),
+    omega (arith, ready .some-dense),
+    omega (arith, ready .few-dense),
+    inside,
+    column-of t dense byte column (ready .columns) rows (omega (arith, ready .few-dense, ready .few-states)) small is,
+  )
 
 module _ (t part : List ℕ) where
   -- One byte more of a quarter.

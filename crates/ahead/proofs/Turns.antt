@@ -60,6 +60,14 @@ each-quarter P a b c d (suc (suc (suc zero))) l = d
 each-quarter P a b c d (suc (suc (suc (suc k)))) l = absurd (omega arith)
 
 module _ (limit : ℕ) (cursors : Cursors) where
+  pub below-more : (more : ℕ) → limit ≤ more → Below limit cursors → Below more cursors
+  below-more more l below = record {
+    first = omega (arith, below .first);
+    second = omega (arith, below .second);
+    third = omega (arith, below .third);
+    fourth = omega (arith, below .fourth);
+  }
+
   pub below-each : Below limit cursors → (k : ℕ) → k < 4 → cursor cursors k < limit
   below-each below = each-quarter (λ k. cursor cursors k < limit) (below .first) (below .second) (below .third) (below .fourth)
 

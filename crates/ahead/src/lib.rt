@@ -94,33 +94,7 @@ fn guessed(
     }
 }
 
-// Looks one quarter up alone, from a state on.
-fn run_again(
-    t: &[u8],
-    part: &[u8],
-    from: usize,
-    quarter: usize,
-    k: usize,
-    state: usize,
-    ahead: &mut [u16],
-) -> usize
-    requires { ⌜ AgainReady (now t) (now part) from quarter k state (now ahead) ⌝ }
-    ensures { λ r. ⌜ Mended (now (t .entry)) (now (part .entry)) from quarter k state r (now (ahead .entry)) (now (ahead .exit)) ⌝ }
-{
-    let states = tables::state_count(t);
-    let dense = tables::dense(t);
-    let mut index = state;
-    let mut i: usize = 0;
-    while i < quarter {
-        let byte = part[from + i];
-        index = turn::next_of(t, states, dense, index, byte, tables::column(t, byte));
-        ahead[QUARTERS * i + k] = index as u16;
-        i += 1;
-    }
-    index
-}
-
-// Looks a quarter up again where the cursor before it ended elsewhere than its own began. Answers where it ends.
+// Looks a quarter up again, alone, where the cursor before it ended elsewhere than its own began. Answers where it ends.
 fn mend(
     t: &[u8],
     part: &[u8],
@@ -138,7 +112,17 @@ fn mend(
     if state == began {
         return ended;
     }
-    run_again(t, part, from, quarter, k, state, ahead)
+    let states = tables::state_count(t);
+    let dense = tables::dense(t);
+    let mut index = state;
+    let mut i: usize = 0;
+    while i < quarter {
+        let byte = part[from + i];
+        index = turn::next_of(t, states, dense, index, byte, tables::column(t, byte));
+        ahead[QUARTERS * i + k] = index as u16;
+        i += 1;
+    }
+    index
 }
 
 // Looks up the states that the bytes of four quarters lead to, from a byte of the part on: every fourth number is of the same quarter. The numbers behind are as they

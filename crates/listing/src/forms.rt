@@ -51,8 +51,9 @@ fn fill(line: &mut [u8], form: &[u8], numbers: &[u64]) -> usize
     let mut k = 0;
     let mut i = 0;
     while i < form.len() {
-        end = show(line, end, form[i], number_at(numbers, k));
-        k = next_number(form[i], k);
+        let byte = form[i];
+        end = show(line, end, byte, number_at(numbers, k));
+        k = next_number(byte, k);
         i += 1;
     }
     end

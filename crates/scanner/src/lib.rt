@@ -6,7 +6,7 @@ ghost use Rattle.running.specs.Layout.{runningSize};
 ghost use Rattle.running.specs.Reads.{WholeRunning};
 ghost use Rattle.tables.specs.Reads.{Whole, pieceCountIn};
 ghost use Rattle.tables.specs.Layout.{roomForPieces};
-ghost use Rattle.tracking.specs.Head.{begunWith, movedTo};
+ghost use Rattle.tracking.specs.Head.{begunWith};
 ghost use Rattle.feeding.specs.Ready.{Ready};
 ghost use Rattle.scanner.specs.Passing.{stateHeld, placeHeld, tooSmall, runningPass};
 ghost use Rattle.scanner.specs.Exact.{tookFrom};
@@ -125,14 +125,6 @@ pub fn begin(tables: &[u8], running: &mut [u8]) -> Begun
     Begun::Done
 }
 
-fn move_to(m: &mut [u8], state: State, place: Place)
-    requires { ⌜ WholeRunning (now m) ⌝ }
-    ensures { λ _. ⌜ now (m .exit) ≡ movedTo (now (m .entry)) (state .0) (place .0) ⌝ }
-{
-    lent::put2(m, STATE, state.number());
-    lent::put8(m, PLACE, place.bytes());
-}
-
 // State and place are written once, when the call takes no more bytes.
 fn take_part(
     t: &[u8],
@@ -146,9 +138,8 @@ fn take_part(
     ensures { λ r. ⌜ record { answer = r; memory = now (m .exit); room = now (room .exit) } ≡ tookFrom (now (t .entry)) (now (m .entry)) (now (part .entry)) (now (room .entry)) (state .0) (place .0) ⌝ }
 {
     let progress = feeding::take_bytes(t, m, part, room, state, place);
-    let reached = progress.state;
-    let there = progress.place;
-    move_to(m, reached, there);
+    lent::put2(m, STATE, progress.state.number());
+    lent::put8(m, PLACE, progress.place.bytes());
     Fed::Took {
         taken: progress.taken,
         reports: progress.written,

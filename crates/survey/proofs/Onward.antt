@@ -1,13 +1,17 @@
 -- A turn does what its record asks for, and goes on behind it, in table memory as long as before. Assumes nothing.
 use mathlib.Core.Path.{_≡_, refl, sym, ap, subst, _∙_}
+use mathlib.Core.Logic.{inl, inr}
 use mathlib.Core.Bool.{Bool, true, false, cond}
-use mathlib.Core.List.{List}
+use mathlib.Core.List.{List, [], _∷_}
 use Prim.Native.Nat.{ℕ, _≤_, _<_}
 use native.Mathlib.Omega.{arith}
 use lib.Dec.{ltb}
 use lib.ListN.{length, set}
 use borrow.Author.Tests.{lt-ltb, le-ltb}
+use types.Run.{OneOf}
+use denote.Enum.Declared.{tagOf}
 use Rattle.tables.specs.Layout.{roomForPieces, roomForPhrases}
+use Rattle.records.proofs.records.Found.{the-type}
 use Rattle.records.specs.declared.records.Found.{Found}
 use Rattle.records.specs.declared.records.Found.the-variants.{Header, Phrase, Bounded, Open, Keyword, End, Refused}
 use Rattle.records.specs.Records.{readAt}
@@ -37,6 +41,10 @@ module _ (bytes : List ℕ) (now : Reading) {found told : Found} (is : found ≡
   pub turned : {after : Reading} → after ≡ turnFor bytes now told → after ≡ turnAt bytes now
   turned left = left ∙ turn-told
 
+  -- Behind the record stands what was passed.
+  pub passed-told : {next : ℕ} → next ≡ pastOf found (length bytes) → next ≡ pastOf told (length bytes)
+  passed-told is-past = is-past ∙ ap (λ (f : Found). pastOf f (length bytes)) tells
+
   -- A keyword lies in the book,
   pub inside-told : Inside bytes told
   inside-told = subst (Inside bytes) (sym is ∙ tells) (read-inside bytes (now .progress .at))
@@ -44,6 +52,28 @@ module _ (bytes : List ℕ) (now : Reading) {found told : Found} (is : found ≡
   -- and is short.
   pub short-told : Short told
   short-told = subst Short (sym is ∙ tells) (read-short bytes (now .progress .at))
+
+-- The variants are counted from 0, in their order: phrases, gaps and keywords are 1 to 4.
+others : (tag : ℕ) → 0 < tag → tag < 5 → OneOf (0 ∷ 5 ∷ 6 ∷ []) tag → ⊥
+others tag low high (inl e) = omega arith
+others tag low high (inr (inl e)) = omega arith
+others tag low high (inr (inr e)) = omega arith
+
+-- What is no phrase, no gap and no keyword only moves the progress on, past it.
+module _ (bytes : List ℕ) (now : Reading) where
+  passed-by : (found : Found) → OneOf (0 ∷ 5 ∷ 6 ∷ []) (tagOf the-type found) → reading (movedTo (pastOf found (length bytes)) (now .progress)) (now .notes) ≡ turnFor bytes now found
+  passed-by (Header edition next) other = refl
+  passed-by (Phrase number rights next) other = absurd (others 1 (omega arith) (omega arith) other)
+  passed-by (Bounded least most next) other = absurd (others 2 (omega arith) (omega arith) other)
+  passed-by (Open least next) other = absurd (others 3 (omega arith) (omega arith) other)
+  passed-by (Keyword start count next) other = absurd (others 4 (omega arith) (omega arith) other)
+  passed-by (End count next) other = refl
+  passed-by (Refused why at) other = refl
+
+  pub passed-turn : {found : Found} {next : ℕ} {onward : Progress} → found ≡ readAt bytes (now .progress .at) → OneOf (0 ∷ 5 ∷ 6 ∷ []) (tagOf the-type found)
+      → next ≡ pastOf found (length bytes) → onward ≡ movedTo next (now .progress) → reading onward (now .notes) ≡ turnAt bytes now
+  passed-turn {found = found} is other past moved =
+      turned bytes now is refl (ap (λ (p : Progress). reading p (now .notes)) (moved ∙ ap (λ (k : ℕ). movedTo k (now .progress)) past) ∙ passed-by found other)
 
 -- ── What the code stored ──
 

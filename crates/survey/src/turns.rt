@@ -16,6 +16,7 @@ use counters::Number;
 use counters::Rank;
 use records::Cursor;
 use records::Found;
+use records::past;
 use records::read;
 use tables::layout::NEVER_CLOSES;
 use tables::layout::ROOM_FOR_PHRASES;
@@ -100,32 +101,31 @@ pub fn turn(
     ensures { λ r. ⌜ reading r (noted (now (t .exit)) (now (offsets .exit)) (now (lengths .exit))) ≡ turnAt (now (book .entry)) (reading progress (noted (now (t .entry)) (now (offsets .entry)) (now (lengths .entry)))) ⌝ }
 {
     let found = read(book, Cursor { at: progress.at });
+    let next = past(found, book.len());
     match found {
-        Found::Header { edition: _, next } => progress.moved(next.at),
         Found::Phrase {
             number,
             rights,
-            next,
-        } => phrase(t, progress, number, rights, next.at),
-        Found::Bounded { least, most, next } => progress.gapped(
+            next: _,
+        } => phrase(t, progress, number, rights, next),
+        Found::Bounded {
             least,
-            span_of(least, most),
-            next.at,
-        ),
-        Found::Open { least, next } => progress.gapped(least, NEVER_CLOSES, next.at),
+            most,
+            next: _,
+        } => progress.gapped(least, span_of(least, most), next),
+        Found::Open { least, next: _ } => progress.gapped(least, NEVER_CLOSES, next),
         Found::Keyword {
             start,
             length,
-            next,
+            next: _,
         } => {
             let word = Word {
                 start,
                 count: length,
-                next: next.at,
+                next,
             };
             keyword(book, t, offsets, lengths, progress, word)
         }
-        Found::End { count: _, next } => progress.moved(next.at),
-        Found::Refused { why: _, at: _ } => progress.moved(book.len()),
+        _ => progress.moved(next),
     }
 }

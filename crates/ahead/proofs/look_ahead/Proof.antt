@@ -1,10 +1,10 @@
 -- Each quarter begins in the state in which the one before it ended, because it is looked up again where it does not.
 -- Assumes nothing.
 use mathlib.Core.Path.{_∙_}
-use Prim.Native.Nat.{_+_, _*_}
+use Prim.Native.Nat.{_*_}
 use native.Mathlib.Omega.{arith}
 use Rattle.ahead.proofs.Runs.{kept-over}
-use Rattle.ahead.proofs.Quarters.{run-ready, again-ready, listed-kept, ran-second, mended-inside, looked}
+use Rattle.ahead.proofs.Quarters.{run-ready, second-ready, third-ready, fourth-ready, mended-inside, looked}
 use Rattle.ahead.proofs.look_ahead.Statement.{statement}
 use Rattle.ahead.proofs.look_ahead.Tie as tie
 
@@ -26,12 +26,7 @@ mend-requires c κs =
     let entry = c .before .before .before .before .before .before .before .before .before .before .before .before in
     let a = entry .args in
     let guess = c .before .before .before .before .before .before .before .guessed .ensures in
-    let ran = c .before .before .before .run-four .ensures in
-    let second = ran-second (a .t .now) (a .part .now) (a .first) (a .quarter) (a .quarter) _ _ _ _ ran in (
-      again-ready (a .t .now) (a .part .now) (a .first) (a .quarter) (a .state .0) (a .ahead .now) (entry .pre) _ (ran .long ∙ guess .long) _ 1 _ (omega arith) (ran .inside .first) (omega (arith, entry .pre .least)),
-      second .0,
-      second .1,
-    )
+    second-ready (a .t .now) (a .part .now) (a .first) (a .quarter) (a .state .0) _ _ _ _ _ (entry .pre) (guess .long) (c .before .before .before .run-four .ensures)
 
 mul-mend : tie.Need-mul-mend
 mul-mend c = omega (arith, c .before .before .before .before .before .before .before .before .before .before .before .before .before .before .before .pre .most)
@@ -45,12 +40,9 @@ mend-requires-2 c κs =
     let a = entry .args in
     let guess = c .before .before .before .before .before .before .before .before .before .before .before .guessed .ensures in
     let ran = c .before .before .before .before .before .before .before .run-four .ensures in
-    let mended = c .before .before .before .mend .ensures in (
-      again-ready (a .t .now) (a .part .now) (a .first) (a .quarter) (a .state .0) (a .ahead .now) (entry .pre) _ (mended .long ∙ ran .long ∙ guess .long) _ 2 _ (omega arith)
-          (omega (arith, mended-inside (a .t .now) (a .part .now) _ _ _ _ _ _ _ mended (ran .inside .first))) (omega (arith, entry .pre .least)),
-      listed-kept (a .t .now) (a .part .now) (a .first + 2 * a .quarter) _ (a .quarter) 2 1 _ _ _ _ _ (omega arith) (λ e. omega arith) (ran .listed 2 (omega arith)) mended,
-      ran .ended 2 (omega arith),
-    )
+    let mended = c .before .before .before .mend .ensures in
+    let inside = mended-inside (a .t .now) (a .part .now) _ _ _ _ _ _ _ mended (ran .inside .first) in
+    third-ready (a .t .now) (a .part .now) (a .first) (a .quarter) (a .state .0) _ _ _ _ _ (entry .pre) (guess .long) ran _ _ _ _ mended _ (omega (arith, inside))
 
 mul-mend-2 : tie.Need-mul-mend-2
 mul-mend-2 c = omega (arith, c .before .before .before .before .before .before .before .before .before .before .before .before .before .before .before .before .before .before .before .pre .most)
@@ -67,12 +59,7 @@ mend-requires-3 c κs =
     let mended = c .before .before .before .before .before .before .before .mend .ensures in
     let again = c .before .before .before .mend2 .ensures in
     let inside = mended-inside (a .t .now) (a .part .now) _ _ _ _ _ _ _ mended (ran .inside .first) in
-    let kept = listed-kept (a .t .now) (a .part .now) (a .first + 3 * a .quarter) _ (a .quarter) 3 1 _ _ _ _ _ (omega arith) (λ e. omega arith) (ran .listed 3 (omega arith)) mended in (
-      again-ready (a .t .now) (a .part .now) (a .first) (a .quarter) (a .state .0) (a .ahead .now) (entry .pre) _ (again .long ∙ mended .long ∙ ran .long ∙ guess .long) _ 3 _ (omega arith)
-          (mended-inside (a .t .now) (a .part .now) _ _ _ _ _ _ _ again (omega (arith, inside))) (omega (arith, entry .pre .least)),
-      listed-kept (a .t .now) (a .part .now) (a .first + 3 * a .quarter) _ (a .quarter) 3 2 _ _ _ _ _ (omega arith) (λ e. omega arith) kept again,
-      ran .ended 3 (omega arith),
-    )
+    fourth-ready (a .t .now) (a .part .now) (a .first) (a .quarter) (a .state .0) _ _ _ _ _ (entry .pre) (guess .long) ran _ _ _ _ mended _ _ _ _ again _ (mended-inside (a .t .now) (a .part .now) _ _ _ _ _ _ _ again (omega (arith, inside)))
 
 same-length : tie.Need-same-length
 same-length c = c .before .before .mend3 .ensures .long ∙ c .before .before .before .before .before .before .mend2 .ensures .long ∙ c .before .before .before .before .before .before .before .before .before .before .mend .ensures .long ∙ c .before .before .before .before .before .before .before .before .before .before .before .before .before .before .run-four .ensures .long ∙ c .before .before .before .before .before .before .before .before .before .before .before .before .before .before .before .before .before .before .guessed .ensures .long

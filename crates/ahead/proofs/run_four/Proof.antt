@@ -5,7 +5,8 @@ use Prim.Native.Nat.{_-_, _≤_}
 use native.Mathlib.Omega.{arith}
 use Rattle.tables.specs.Reads.{stateCountIn, denseIn}
 use Rattle.ahead.specs.Ahead.{Ran}
-use Rattle.ahead.proofs.Runs.{ran-none, ran-more}
+use Rattle.ahead.proofs.Turns.{below-more}
+use Rattle.ahead.proofs.Runs.{turn-ready, ran-none, ran-more}
 use Rattle.ahead.proofs.run_four.Statement.{statement}
 use Rattle.ahead.proofs.run_four.Tie as tie
 
@@ -33,19 +34,9 @@ add-turn c = omega (arith, c .before .before .before .before .before .before .be
 turn-requires : tie.Need-turn-requires Inv-loop μ-loop
 turn-requires c κs =
     let entry = c .before .before .before .before .before .before .before in
-    let ready = entry .pre .0 in
+    let a = entry .args in
     let inv = c .before .loop .inv in
-    record {
-      tables = ready .tables;
-      counted = inv .1;
-      rows = inv .2;
-      few-states = omega (arith, inv .1, ready .few-states);
-      some-dense = omega (arith, inv .2, ready .some-dense);
-      few-dense = omega (arith, inv .1, inv .2, ready .few-dense);
-      columns = ready .columns;
-      inside = rw (inv .1) (inv .3 .inside);
-      within = omega (arith, ready .within, c .loop-test .taken);
-    }
+    turn-ready (a .t .now) (a .part .now) _ _ (inv .1) (inv .2) (a .first) (a .quarter) (a .count) _ _ _ (entry .pre .0) (inv .3 .inside) (c .loop-test .taken)
 
 mul-put-four : tie.Need-mul-put-four Inv-loop μ-loop
 mul-put-four c = omega (arith, c .before .before .before .before .before .before .before .before .before .pre .0 .room, c .before .before .before .before .before .before .before .before .before .good .1 .1 .1 .1 .1 .1 .0 .0, c .before .before .loop-test .taken)
@@ -54,15 +45,9 @@ put-four-requires : tie.Need-put-four-requires Inv-loop μ-loop
 put-four-requires c κs =
     let entry = c .before .before .before .before .before .before .before .before .before in
     let ready = entry .pre .0 in
-    let inv = c .before .before .before .loop .inv in
-    let inside = c .before .turn .ensures .inside in (
+    let inv = c .before .before .before .loop .inv in (
       omega (arith, ready .room, inv .3 .long, c .before .before .loop-test .taken),
-      record {
-        first = omega (arith, inside .first, inv .1, ready .few-states);
-        second = omega (arith, inside .second, inv .1, ready .few-states);
-        third = omega (arith, inside .third, inv .1, ready .few-states);
-        fourth = omega (arith, inside .fourth, inv .1, ready .few-states);
-      },
+      below-more _ _ _ (omega (arith, inv .1, ready .few-states)) (c .before .turn .ensures .inside),
     )
 
 add-i : tie.Need-add-i Inv-loop μ-loop

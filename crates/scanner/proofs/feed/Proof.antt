@@ -2,6 +2,7 @@
 -- Assumes nothing.
 use mathlib.Core.Path.{_≡_, sym, subst, _∙_}
 use mathlib.Core.Bool.{true, false}
+use mathlib.Core.List.{List}
 use Prim.Native.Nat.{ℕ, _-_, _/_, _≤_}
 use native.Mathlib.Omega.{arith}
 use lib.ListN.{length}
@@ -17,6 +18,37 @@ use borrow.Author.Needs.{needs}
 use Rattle.scanner.proofs.feed.Statement.{statement}
 use Rattle.scanner.proofs.feed.Tie as tie
 
+-- ── What was lent, and what is known of it behind each test ──
+
+abbrev tables : tie.Else1 → List ℕ
+tables c = c .before .before .before .before .before .before .before .args .tables .now
+
+abbrev memory : tie.Else1 → List ℕ
+memory c = c .before .before .before .before .before .before .before .args .running .now
+
+abbrev part : tie.Else1 → List ℕ
+part c = c .before .before .before .before .before .before .before .args .part .now
+
+abbrev room : tie.Else1 → List ℕ
+room c = c .before .before .before .before .before .before .before .args .room .now
+
+large : (c : tie.Else1) → tooSmall (tables c) (memory c) ≡ false
+large c = sym (c .before .too-small .ensures) ∙ c .if1 .left
+
+tables-pass : (c : tie.Else2) → tablesPass (tables (c .before .before)) ≡ true
+tables-pass c = sym (c .before .passes .ensures) ∙ not-false (c .before .passes .result) (c .if2 .left)
+
+running-pass : (c : tie.Else3) → runningPass (tables (c .before .before .before .before .before)) (memory (c .before .before .before .before .before)) ≡ true
+running-pass c = sym (c .before .running-passes .ensures) ∙ not-false (c .before .running-passes .result) (c .if3 .left)
+
+roomy : (c : tie.Else4) → phraseCountIn (tables (c .before .before .before .before .before .before .before)) ≤ length (room (c .before .before .before .before .before .before .before)) / 2
+roomy c = subst (λ (n : ℕ). n ≤ length (room (c .before .before .before .before .before .before .before)) / 2) (c .before .phrase-count .ensures .0) (c .if4 .left)
+
+short : (c : tie.Else5) → length (part (c .before .before .before .before .before .before .before .before .before .before .before .before)) ≤ largestPlace - placeHeld (memory (c .before .before .before .before .before .before .before .before .before .before .before .before))
+short c = fits _ _ _ _ _ (c .before .size64 .ensures) (c .before .before .bytes .ensures) (c .before .before .before .place-of .ensures) (c .if5 .left)
+
+-- ── The needs ──
+
 too-small-requires : tie.Need-too-small-requires
 too-small-requires c κs = search needs
 
@@ -26,7 +58,8 @@ same-length c = search needs
 returns : tie.Need-returns
 returns c =
     let a = c .before .before .before .before .before .before .before .args in
-    feed-promised (a .tables .now) (a .running .now) (a .part .now) (a .room .now) _ (sym (feed-small (a .tables .now) (a .running .now) (a .part .now) (a .room .now) (sym (c .before .too-small .ensures) ∙ c .if1 .taken)))
+    feed-promised (a .tables .now) (a .running .now) (a .part .now) (a .room .now) _
+    (sym (feed-small (a .tables .now) (a .running .now) (a .part .now) (a .room .now) (sym (c .before .too-small .ensures) ∙ c .if1 .taken)))
 
 passes-requires : tie.Need-passes-requires
 passes-requires c κs = search needs
@@ -36,9 +69,9 @@ same-length-2 c = search needs
 
 returns-2 : tie.Need-returns-2
 returns-2 c =
-    let a = c .before .before .before .before .before .before .before .before .before .args in
-    let is-large : tooSmall (a .tables .now) (a .running .now) ≡ false = sym (c .before .before .before .too-small .ensures) ∙ c .before .before .if1 .left in
-    feed-promised (a .tables .now) (a .running .now) (a .part .now) (a .room .now) _ (sym (feed-not-tables (a .tables .now) (a .running .now) (a .part .now) (a .room .now) is-large (sym (c .before .passes .ensures) ∙ not-true (c .before .passes .result) (c .if2 .taken))))
+    let lent = c .before .before in
+    feed-promised (tables lent) (memory lent) (part lent) (room lent) _
+    (sym (feed-not-tables (tables lent) (memory lent) (part lent) (room lent) (large lent) (sym (c .before .passes .ensures) ∙ not-true (c .before .passes .result) (c .if2 .taken))))
 
 running-passes-requires : tie.Need-running-passes-requires
 running-passes-requires c κs = search needs
@@ -48,42 +81,30 @@ same-length-3 c = search needs
 
 returns-3 : tie.Need-returns-3
 returns-3 c =
-    let a = c .before .before .before .before .before .before .before .before .before .before .before .before .args in
-    let is-large : tooSmall (a .tables .now) (a .running .now) ≡ false = sym (c .before .before .before .before .before .before .too-small .ensures) ∙ c .before .before .before .before .before .if1 .left in
-    let tables-pass : tablesPass (a .tables .now) ≡ true = sym (c .before .before .before .before .passes .ensures) ∙ not-false (c .before .before .before .before .passes .result) (c .before .before .before .if2 .left) in
-    feed-promised (a .tables .now) (a .running .now) (a .part .now) (a .room .now) _ (sym (feed-not-running (a .tables .now) (a .running .now) (a .part .now) (a .room .now) is-large tables-pass (sym (c .before .running-passes .ensures) ∙ not-true (c .before .running-passes .result) (c .if3 .taken))))
+    let lent = c .before .before .before .before .before in
+    feed-promised (tables lent) (memory lent) (part lent) (room lent) _
+    (sym (feed-not-running (tables lent) (memory lent) (part lent) (room lent) (large lent) (tables-pass (c .before .before .before)) (sym (c .before .running-passes .ensures) ∙ not-true (c .before .running-passes .result) (c .if3 .taken))))
 
 phrase-count-requires : tie.Need-phrase-count-requires
-phrase-count-requires c κs =
-    let a = c .before .before .before .before .before .before .before .before .before .before .before .before .args in
-    let is-large : tooSmall (a .tables .now) (a .running .now) ≡ false = sym (c .before .before .before .before .before .before .too-small .ensures) ∙ c .before .before .before .before .before .if1 .left in
-    omega (arith, whole (a .tables .now) (a .running .now) is-large)
+phrase-count-requires c κs = whole _ _ (large (c .before .before .before .before .before)) .0
 
 same-length-4 : tie.Need-same-length-4
 same-length-4 c = search needs
 
 returns-4 : tie.Need-returns-4
 returns-4 c =
-    let a = c .before .before .before .before .before .before .before .before .before .before .before .before .before .before .args in
-    let is-large : tooSmall (a .tables .now) (a .running .now) ≡ false = sym (c .before .before .before .before .before .before .before .before .too-small .ensures) ∙ c .before .before .before .before .before .before .before .if1 .left in
-    let tables-pass : tablesPass (a .tables .now) ≡ true = sym (c .before .before .before .before .before .before .passes .ensures) ∙ not-false (c .before .before .before .before .before .before .passes .result) (c .before .before .before .before .before .if2 .left) in
-    let running-pass : runningPass (a .tables .now) (a .running .now) ≡ true = sym (c .before .before .before .running-passes .ensures) ∙ not-false (c .before .before .before .running-passes .result) (c .before .before .if3 .left) in
-    feed-promised (a .tables .now) (a .running .now) (a .part .now) (a .room .now) _ (sym (feed-no-room (a .tables .now) (a .running .now) (a .part .now) (a .room .now) is-large tables-pass running-pass (omega arith)))
+    let lent = c .before .before .before .before .before .before .before in
+    feed-promised (tables lent) (memory lent) (part lent) (room lent) _
+    (sym (feed-no-room (tables lent) (memory lent) (part lent) (room lent) (large lent) (tables-pass (c .before .before .before .before .before)) (running-pass (c .before .before)) (omega arith)))
 
 place-of-requires : tie.Need-place-of-requires
-place-of-requires c κs =
-    let a = c .before .before .before .before .before .before .before .before .before .before .before .before .before .before .before .args in
-    let is-large : tooSmall (a .tables .now) (a .running .now) ≡ false = sym (c .before .before .before .before .before .before .before .before .before .too-small .ensures) ∙ c .before .before .before .before .before .before .before .before .if1 .left in
-    omega (arith, whole (a .tables .now) (a .running .now) is-large)
+place-of-requires c κs = whole _ _ (large (c .before .before .before .before .before .before .before .before)) .1
 
 bytes-requires : tie.Need-bytes-requires
 bytes-requires c κs = search needs
 
 sub-if5 : tie.Need-sub-if5
-sub-if5 c =
-    let a = c .before .before .before .before .before .before .before .before .before .before .before .before .before .before .before .before .before .args in
-    let running-pass : runningPass (a .tables .now) (a .running .now) ≡ true = sym (c .before .before .before .before .before .before .running-passes .ensures) ∙ not-false (c .before .before .before .before .before .before .running-passes .result) (c .before .before .before .before .before .if3 .left) in
-    omega (arith, passed (a .tables .now) (a .running .now) running-pass .place)
+sub-if5 c = omega (arith, passed _ _ (running-pass (c .before .before .before .before .before)) .place)
 
 size64-requires : tie.Need-size64-requires
 size64-requires c κs = search needs
@@ -93,28 +114,18 @@ same-length-5 c = search needs
 
 returns-5 : tie.Need-returns-5
 returns-5 c =
-    let a = c .before .before .before .before .before .before .before .before .before .before .before .before .before .before .before .before .before .before .before .args in
-    let is-large : tooSmall (a .tables .now) (a .running .now) ≡ false = sym (c .before .before .before .before .before .before .before .before .before .before .before .before .before .too-small .ensures) ∙ c .before .before .before .before .before .before .before .before .before .before .before .before .if1 .left in
-    let tables-pass : tablesPass (a .tables .now) ≡ true = sym (c .before .before .before .before .before .before .before .before .before .before .before .passes .ensures) ∙ not-false (c .before .before .before .before .before .before .before .before .before .before .before .passes .result) (c .before .before .before .before .before .before .before .before .before .before .if2 .left) in
-    let running-pass : runningPass (a .tables .now) (a .running .now) ≡ true = sym (c .before .before .before .before .before .before .before .before .running-passes .ensures) ∙ not-false (c .before .before .before .before .before .before .before .before .running-passes .result) (c .before .before .before .before .before .before .before .if3 .left) in
-    let roomy : phraseCountIn (a .tables .now) ≤ length (a .room .now) / 2 = subst (λ (n : ℕ). n ≤ length (a .room .now) / 2) (c .before .before .before .before .before .before .phrase-count .ensures .0) (c .before .before .before .before .before .if4 .left) in
-    feed-promised (a .tables .now) (a .running .now) (a .part .now) (a .room .now) _ (sym (feed-too-long (a .tables .now) (a .running .now) (a .part .now) (a .room .now) is-large tables-pass running-pass roomy (omega arith)))
+    let lent = c .before .before .before .before .before .before .before .before .before .before .before .before in
+    feed-promised (tables lent) (memory lent) (part lent) (room lent) _
+    (sym (feed-too-long (tables lent) (memory lent) (part lent) (room lent) (large lent) (tables-pass (c .before .before .before .before .before .before .before .before .before .before)) (running-pass (c .before .before .before .before .before .before .before)) (roomy (c .before .before .before .before .before)) (omega arith)))
 
 state-of-requires : tie.Need-state-of-requires
-state-of-requires c κs =
-    let a = c .before .before .before .before .before .before .before .before .before .before .before .before .before .before .before .before .before .before .before .before .args in
-    let is-large : tooSmall (a .tables .now) (a .running .now) ≡ false = sym (c .before .before .before .before .before .before .before .before .before .before .before .before .before .before .too-small .ensures) ∙ c .before .before .before .before .before .before .before .before .before .before .before .before .before .if1 .left in
-    omega (arith, whole (a .tables .now) (a .running .now) is-large)
+state-of-requires c κs = whole _ _ (large (c .before .before .before .before .before .before .before .before .before .before .before .before .before)) .1
 
 take-part-requires : tie.Need-take-part-requires
 take-part-requires c κs =
-    let a = c .before .before .before .before .before .before .before .before .before .before .before .before .before .before .before .before .before .before .before .before .before .before .before .args in
-    let is-large : tooSmall (a .tables .now) (a .running .now) ≡ false = sym (c .before .before .before .before .before .before .before .before .before .before .before .before .before .before .before .before .before .too-small .ensures) ∙ c .before .before .before .before .before .before .before .before .before .before .before .before .before .before .before .before .if1 .left in
-    let tables-pass : tablesPass (a .tables .now) ≡ true = sym (c .before .before .before .before .before .before .before .before .before .before .before .before .before .before .before .passes .ensures) ∙ not-false (c .before .before .before .before .before .before .before .before .before .before .before .before .before .before .before .passes .result) (c .before .before .before .before .before .before .before .before .before .before .before .before .before .before .if2 .left) in
-    let running-pass : runningPass (a .tables .now) (a .running .now) ≡ true = sym (c .before .before .before .before .before .before .before .before .before .before .before .before .running-passes .ensures) ∙ not-false (c .before .before .before .before .before .before .before .before .before .before .before .before .running-passes .result) (c .before .before .before .before .before .before .before .before .before .before .before .if3 .left) in
-    let roomy : phraseCountIn (a .tables .now) ≤ length (a .room .now) / 2 = subst (λ (n : ℕ). n ≤ length (a .room .now) / 2) (c .before .before .before .before .before .before .before .before .before .before .phrase-count .ensures .0) (c .before .before .before .before .before .before .before .before .before .if4 .left) in
-    let short : length (a .part .now) ≤ largestPlace - placeHeld (a .running .now) = fits _ _ _ _ _ (c .before .before .before .before .before .size64 .ensures) (c .before .before .before .before .before .before .bytes .ensures) (c .before .before .before .before .before .before .before .place-of .ensures) (c .before .before .before .before .if5 .left) in
-    feed-ready (a .tables .now) (a .running .now) (a .part .now) (a .room .now) is-large tables-pass running-pass roomy short _ _ (c .before .before .state-of .ensures) (c .before .before .before .before .before .before .before .place-of .ensures)
+    let lent = c .before .before .before .before .before .before .before .before .before .before .before .before .before .before .before .before in
+    feed-ready (tables lent) (memory lent) (part lent) (room lent) (large lent) (tables-pass (c .before .before .before .before .before .before .before .before .before .before .before .before .before .before)) (running-pass (c .before .before .before .before .before .before .before .before .before .before .before)) (roomy (c .before .before .before .before .before .before .before .before .before)) (short (c .before .before .before .before)) _ _
+    (c .before .before .state-of .ensures) (c .before .before .before .before .before .before .before .place-of .ensures)
 
 same-length-6 : tie.Need-same-length-6
 same-length-6 c = c .before .before .before .running .given
@@ -124,13 +135,10 @@ same-length-7 c = c .before .room .given
 
 returns-6 : tie.Need-returns-6
 returns-6 c =
-    let a = c .before .before .before .before .before .before .before .before .before .before .before .before .before .before .before .before .before .before .before .before .before .before .before .before .before .before .before .before .args in
-    let is-large : tooSmall (a .tables .now) (a .running .now) ≡ false = sym (c .before .before .before .before .before .before .before .before .before .before .before .before .before .before .before .before .before .before .before .before .before .before .too-small .ensures) ∙ c .before .before .before .before .before .before .before .before .before .before .before .before .before .before .before .before .before .before .before .before .before .if1 .left in
-    let tables-pass : tablesPass (a .tables .now) ≡ true = sym (c .before .before .before .before .before .before .before .before .before .before .before .before .before .before .before .before .before .before .before .before .passes .ensures) ∙ not-false (c .before .before .before .before .before .before .before .before .before .before .before .before .before .before .before .before .before .before .before .before .passes .result) (c .before .before .before .before .before .before .before .before .before .before .before .before .before .before .before .before .before .before .before .if2 .left) in
-    let running-pass : runningPass (a .tables .now) (a .running .now) ≡ true = sym (c .before .before .before .before .before .before .before .before .before .before .before .before .before .before .before .before .before .running-passes .ensures) ∙ not-false (c .before .before .before .before .before .before .before .before .before .before .before .before .before .before .before .before .before .running-passes .result) (c .before .before .before .before .before .before .before .before .before .before .before .before .before .before .before .before .if3 .left) in
-    let roomy : phraseCountIn (a .tables .now) ≤ length (a .room .now) / 2 = subst (λ (n : ℕ). n ≤ length (a .room .now) / 2) (c .before .before .before .before .before .before .before .before .before .before .before .before .before .before .before .phrase-count .ensures .0) (c .before .before .before .before .before .before .before .before .before .before .before .before .before .before .if4 .left) in
-    let short : length (a .part .now) ≤ largestPlace - placeHeld (a .running .now) = fits _ _ _ _ _ (c .before .before .before .before .before .before .before .before .before .before .size64 .ensures) (c .before .before .before .before .before .before .before .before .before .before .before .bytes .ensures) (c .before .before .before .before .before .before .before .before .before .before .before .before .place-of .ensures) (c .before .before .before .before .before .before .before .before .before .if5 .left) in
-    feed-promised (a .tables .now) (a .running .now) (a .part .now) (a .room .now) _ (feed-took (a .tables .now) (a .running .now) (a .part .now) (a .room .now) is-large tables-pass running-pass roomy short _ _ (c .before .before .before .before .before .before .before .state-of .ensures) (c .before .before .before .before .before .before .before .before .before .before .before .before .place-of .ensures) _ (c .before .before .before .before .take-part .ensures))
+    let lent = c .before .before .before .before .before .before .before .before .before .before .before .before .before .before .before .before .before .before .before .before .before in
+    feed-promised (tables lent) (memory lent) (part lent) (room lent) _
+    (feed-took (tables lent) (memory lent) (part lent) (room lent) (large lent) (tables-pass (c .before .before .before .before .before .before .before .before .before .before .before .before .before .before .before .before .before .before .before)) (running-pass (c .before .before .before .before .before .before .before .before .before .before .before .before .before .before .before .before)) (roomy (c .before .before .before .before .before .before .before .before .before .before .before .before .before .before)) (short (c .before .before .before .before .before .before .before .before .before)) _ _
+    (c .before .before .before .before .before .before .before .state-of .ensures) (c .before .before .before .before .before .before .before .before .before .before .before .before .place-of .ensures) _ (c .before .before .before .before .take-part .ensures))
 
 pub feed-spec : {M : Type 1} → statement M
 feed-spec =

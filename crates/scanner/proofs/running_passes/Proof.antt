@@ -2,6 +2,8 @@
 -- Assumes nothing.
 use mathlib.Core.Path.{_≡_, sym, ap₂, _∙_}
 use mathlib.Core.Bool.{false}
+use mathlib.Core.List.{List}
+use Prim.Native.Nat.{ℕ}
 use native.Mathlib.Omega.{arith}
 use lib.Dec.{eqb}
 use Rattle.running.specs.Layout.{runningTag}
@@ -10,6 +12,23 @@ use Rattle.scanner.proofs.Passing.{whole, pass-small, pass-tag, pass-st
 use borrow.Author.Needs.{needs}
 use Rattle.scanner.proofs.running_passes.Statement.{statement}
 use Rattle.scanner.proofs.running_passes.Tie as tie
+
+-- ── What was lent, and what is known of it behind the first two tests ──
+
+abbrev tables : tie.Else1 → List ℕ
+tables c = c .before .before .before .before .args .t .now
+
+abbrev memory : tie.Else1 → List ℕ
+memory c = c .before .before .before .before .args .m .now
+
+large : (c : tie.Else1) → tooSmall (tables c) (memory c) ≡ false
+large c = sym (c .before .too-small .ensures) ∙ c .if1 .left
+
+tagged : (c : tie.Else2) → tagHeld (memory (c .before .before)) ≡ tagAsked
+unfolding runningTag
+tagged c = sym (c .before .get8 .ensures) ∙ c .if2 .left
+
+-- ── The needs ──
 
 too-small-requires : tie.Need-too-small-requires
 too-small-requires c κs = search needs
@@ -20,77 +39,49 @@ returns c =
     sym (pass-small (a .t .now) (a .m .now) (sym (c .before .too-small .ensures) ∙ c .if1 .taken))
 
 get8-requires : tie.Need-get8-requires
-get8-requires c κs =
-    let a = c .before .before .before .before .args in
-    let is-large : tooSmall (a .t .now) (a .m .now) ≡ false = sym (c .before .too-small .ensures) ∙ c .if1 .left in
-    omega (arith, whole (a .t .now) (a .m .now) is-large)
+get8-requires c κs = omega (arith, whole _ _ (large c) .1)
 
 returns-2 : tie.Need-returns-2
 unfolding runningTag
 returns-2 c =
-    let a = c .before .before .before .before .before .before .args in
-    let is-large : tooSmall (a .t .now) (a .m .now) ≡ false = sym (c .before .before .before .too-small .ensures) ∙ c .before .before .if1 .left in
-    sym (pass-tag (a .t .now) (a .m .now) is-large (λ e. c .if2 .taken (c .before .get8 .ensures ∙ e)))
+    let lent = c .before .before in
+    sym (pass-tag (tables lent) (memory lent) (large lent) (λ e. c .if2 .taken (c .before .get8 .ensures ∙ e)))
 
 state-count-requires : tie.Need-state-count-requires
-state-count-requires c κs =
-    let a = c .before .before .before .before .before .before .args in
-    let is-large : tooSmall (a .t .now) (a .m .now) ≡ false = sym (c .before .before .before .too-small .ensures) ∙ c .before .before .if1 .left in
-    omega (arith, whole (a .t .now) (a .m .now) is-large)
+state-count-requires c κs = whole _ _ (large (c .before .before)) .0
 
 state-of-requires : tie.Need-state-of-requires
-state-of-requires c κs =
-    let a = c .before .before .before .before .before .before .before .args in
-    let is-large : tooSmall (a .t .now) (a .m .now) ≡ false = sym (c .before .before .before .before .too-small .ensures) ∙ c .before .before .before .if1 .left in
-    omega (arith, whole (a .t .now) (a .m .now) is-large)
+state-of-requires c κs = whole _ _ (large (c .before .before .before)) .1
 
 index-requires : tie.Need-index-requires
 index-requires c κs = search needs
 
 returns-3 : tie.Need-returns-3
-unfolding runningTag
 returns-3 c =
-    let a = c .before .before .before .before .before .before .before .before .before .before .args in
-    let is-large : tooSmall (a .t .now) (a .m .now) ≡ false = sym (c .before .before .before .before .before .before .before .too-small .ensures) ∙ c .before .before .before .before .before .before .if1 .left in
-    let tag : tagHeld (a .m .now) ≡ tagAsked = sym (c .before .before .before .before .before .get8 .ensures) ∙ c .before .before .before .before .if2 .left in
-    sym (pass-state (a .t .now) (a .m .now) is-large tag (omega arith))
+    let lent = c .before .before .before .before .before .before in
+    sym (pass-state (tables lent) (memory lent) (large lent) (tagged (c .before .before .before .before)) (omega arith))
 
 place-of-requires : tie.Need-place-of-requires
-place-of-requires c κs =
-    let a = c .before .before .before .before .before .before .before .before .before .before .args in
-    let is-large : tooSmall (a .t .now) (a .m .now) ≡ false = sym (c .before .before .before .before .before .before .before .too-small .ensures) ∙ c .before .before .before .before .before .before .if1 .left in
-    omega (arith, whole (a .t .now) (a .m .now) is-large)
+place-of-requires c κs = whole _ _ (large (c .before .before .before .before .before .before)) .1
 
 bytes-requires : tie.Need-bytes-requires
 bytes-requires c κs = search needs
 
 returns-4 : tie.Need-returns-4
-unfolding runningTag
 returns-4 c =
-    let a = c .before .before .before .before .before .before .before .before .before .before .before .before .before .args in
-    let is-large : tooSmall (a .t .now) (a .m .now) ≡ false = sym (c .before .before .before .before .before .before .before .before .before .before .too-small .ensures) ∙ c .before .before .before .before .before .before .before .before .before .if1 .left in
-    let tag : tagHeld (a .m .now) ≡ tagAsked = sym (c .before .before .before .before .before .before .before .before .get8 .ensures) ∙ c .before .before .before .before .before .before .before .if2 .left in
-    sym (pass-place (a .t .now) (a .m .now) is-large tag (omega arith) (omega arith))
+    let lent = c .before .before .before .before .before .before .before .before .before in
+    sym (pass-place (tables lent) (memory lent) (large lent) (tagged (c .before .before .before .before .before .before .before)) (omega arith) (omega arith))
 
 get8-requires-2 : tie.Need-get8-requires-2
-get8-requires-2 c κs =
-    let a = c .before .before .before .before .before .before .before .before .before .before .before .before .before .args in
-    let is-large : tooSmall (a .t .now) (a .m .now) ≡ false = sym (c .before .before .before .before .before .before .before .before .before .before .too-small .ensures) ∙ c .before .before .before .before .before .before .before .before .before .if1 .left in
-    omega (arith, whole (a .t .now) (a .m .now) is-large)
+get8-requires-2 c κs = omega (arith, whole _ _ (large (c .before .before .before .before .before .before .before .before .before)) .1)
 
 mark-requires : tie.Need-mark-requires
-mark-requires c κs =
-    let a = c .before .before .before .before .before .before .before .before .before .before .before .before .before .before .args in
-    let is-large : tooSmall (a .t .now) (a .m .now) ≡ false = sym (c .before .before .before .before .before .before .before .before .before .before .before .too-small .ensures) ∙ c .before .before .before .before .before .before .before .before .before .before .if1 .left in
-    omega (arith, whole (a .t .now) (a .m .now) is-large)
+mark-requires c κs = whole _ _ (large (c .before .before .before .before .before .before .before .before .before .before)) .0
 
 returns-5 : tie.Need-returns-5
-unfolding runningTag
 returns-5 c =
-    let a = c .before .before .before .before .before .before .before .before .before .before .before .before .before .before .before .args in
-    let is-large : tooSmall (a .t .now) (a .m .now) ≡ false = sym (c .before .before .before .before .before .before .before .before .before .before .before .before .too-small .ensures) ∙ c .before .before .before .before .before .before .before .before .before .before .before .if1 .left in
-    let tag : tagHeld (a .m .now) ≡ tagAsked = sym (c .before .before .before .before .before .before .before .before .before .before .get8 .ensures) ∙ c .before .before .before .before .before .before .before .before .before .if2 .left in
-    ap₂ eqb (c .before .get82 .ensures) (c .mark .ensures) ∙ sym (pass-mark (a .t .now) (a .m .now) is-large tag (omega arith) (omega arith))
+    let lent = c .before .before .before .before .before .before .before .before .before .before .before in
+    ap₂ eqb (c .before .get82 .ensures) (c .mark .ensures) ∙ sym (pass-mark (tables lent) (memory lent) (large lent) (tagged (c .before .before .before .before .before .before .before .before .before)) (omega arith) (omega arith))
 
 pub running-passes-spec : {M : Type 1} → statement M
 running-passes-spec =

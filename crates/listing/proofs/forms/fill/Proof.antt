@@ -19,8 +19,8 @@ abbrev μ-loop : tie.MeasureT-loop
 loop-holds : tie.Need-loop-holds Inv-loop μ-loop
 loop-holds c = record { within = omega arith; next = omega arith; size = refl; ends = omega arith; makes = refl }
 
-shared-slice-read-show : tie.Need-shared-slice-read-show Inv-loop μ-loop
-shared-slice-read-show c = omega arith
+shared-slice-read-byte : tie.Need-shared-slice-read-byte Inv-loop μ-loop
+shared-slice-read-byte c = omega arith
 
 number-at-requires : tie.Need-number-at-requires Inv-loop μ-loop
 number-at-requires c κs = search needs
@@ -29,9 +29,6 @@ show-requires : tie.Need-show-requires Inv-loop μ-loop
 show-requires c κs =
     let turn = c .before .before .before .before .loop in
     rw (c .number-at .ensures) (omega (arith, shown-room (turn .inv) (omega arith)))
-
-shared-slice-read-next-number : tie.Need-shared-slice-read-next-number Inv-loop μ-loop
-shared-slice-read-next-number c = omega arith
 
 next-number-requires : tie.Need-next-number-requires Inv-loop μ-loop
 next-number-requires c κs = omega arith
@@ -44,9 +41,9 @@ loop-less c = omega arith
 
 loop-again : tie.Need-loop-again Inv-loop μ-loop
 loop-again c =
-    let turn = c .before .before .before .before .before .before .before .before .before .loop in
-    let shown = c .before .before .before .before .show .ensures in
-    let number = c .before .before .before .before .before .number-at .ensures in
+    let turn = c .before .before .before .before .before .before .before .before .loop in
+    let shown = c .before .before .before .show .ensures in
+    let number = c .before .before .before .before .number-at .ensures in
     turn-shown (turn .inv) (omega arith) number (shown .0) (shown .1) (c .next-number .ensures)
 
 same-length : tie.Need-same-length Inv-loop μ-loop
@@ -62,10 +59,9 @@ fill-spec =
     Inv-loop
     μ-loop
     loop-holds
-    shared-slice-read-show
+    shared-slice-read-byte
     number-at-requires
     show-requires
-    shared-slice-read-next-number
     next-number-requires
     add-i
     loop-less
