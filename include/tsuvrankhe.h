@@ -66,7 +66,7 @@ enum tsuvrankhe_number {
     TSUVRANKHE_FULL = 9,       /* build: this keyword brings the different prefixes above 2,047 */
     TSUVRANKHE_NO_ROOM = 10,   /* feed: the room is below the number of phrases, even for an empty part */
     TSUVRANKHE_TOO_LONG = 11,  /* feed: the bytes already taken and the whole part offered exceed 4,294,967,295 */
-    TSUVRANKHE_NOT_TABLES = 12 /* begin: the tables do not pass the test; feed: the tables or the running memory do not pass it */
+    TSUVRANKHE_NOT_PASSED = 12 /* begin: the tables do not pass the test; feed: the tables or the running memory do not pass it */
 };
 
 struct tsuvrankhe_built {

@@ -28,8 +28,8 @@ pub enum Refusal {
     NoRoom = 10,
     /// 11: the bytes already taken and the part offered exceed 4,294,967,295.
     TooLong = 11,
-    /// 12: the bytes are not those of tables or of running memory. This crate lends no others, so it is never given here.
-    NotTables = 12,
+    /// 12: the lent bytes do not pass the test of tables and of running memory. This crate lends none but those that do, so it is never given here.
+    NotPassed = 12,
 }
 
 impl Refusal {
@@ -45,7 +45,7 @@ impl Refusal {
         Refusal::Full,
         Refusal::NoRoom,
         Refusal::TooLong,
-        Refusal::NotTables,
+        Refusal::NotPassed,
     ];
 
     /// The paper's number, 1 to 12.
@@ -75,7 +75,7 @@ impl fmt::Display for Refusal {
             Refusal::Full => "this keyword brings the different prefixes above 2,047",
             Refusal::NoRoom => "the report room is below the number of phrases",
             Refusal::TooLong => "the letter would be longer than 4,294,967,295 bytes",
-            Refusal::NotTables => "the bytes are not those of tables or of running memory",
+            Refusal::NotPassed => "the lent bytes do not pass the test of tables and of running memory",
         })
     }
 }

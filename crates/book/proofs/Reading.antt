@@ -10,7 +10,7 @@ use lib.ListN.{length, take, drop, getD, length-drop, drop-of-length-le}
 use lib.Seq.{drop-cons, drop-drop}
 use Rattle.meaning.specs.Books.{keywords}
 use Rattle.format.specs.Refusals as format
-use Rattle.format.specs.Refusals.{numberOf}
+use Rattle.format.specs.Refusals.{refusalNumber}
 use Rattle.format.specs.Limits.{Bytes}
 use Rattle.format.specs.Stages.{Stage, start, headed, named, gapped, worded, ended, phrasesAt, SoFar}
 use Rattle.format.specs.Faults.{bodyLength, firstFault}
@@ -123,7 +123,7 @@ module _ (bytes : List ℕ) (in-bytes : Bytes bytes) (at : ℕ) {name : code.Sta
     refuses-right : (why : format.Refusal) → firstFault (r .stage) (drop at bytes) ≡ some why → Comes bytes at (Refused (refusalFor why))
     unfolding saidBy answerOf
     refuses-right why e =
-        ap (λ (w : format.Refusal). record { number = numberOf w; offset = at; phrases = 0 }) (refusal-said why)
+        ap (λ (w : format.Refusal). record { number = refusalNumber w; offset = at; phrases = 0 }) (refusal-said why)
         ∙ ap answerOf (sym (fault-refuses (r .fuel) (r .stage) at (drop at bytes) why e) ∙ r .rest)
 
     module _ (e : firstFault (r .stage) (getD bytes at 0 ∷ drop (at + 1) bytes) ≡ none) where

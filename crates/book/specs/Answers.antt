@@ -2,7 +2,7 @@
 use mathlib.Core.Path.{_≡_}
 use mathlib.Core.List.{List}
 use Prim.Native.Nat.{ℕ}
-use Rattle.format.specs.Refusals.{numberOf}
+use Rattle.format.specs.Refusals.{refusalNumber}
 use Rattle.format.specs.Judged.{Judgement, Answer, answerOf, judged, Judges}
 use Rattle.records.specs.Refusals.{reasonOf}
 use Rattle.book.specs.declared.answers.Judged.{Judged}
@@ -11,9 +11,9 @@ use Rattle.book.specs.declared.answers.Judged.the-variants.{Accepted, Re
 -- Document 01's number, offset and phrases of each case: 0 and the book's length for a book that is accepted, and else the
 -- number of the refusal and the offset of the record, with no phrases.
 unfoldable pub saidBy : Judged → Answer
-unfolding numberOf reasonOf
+unfolding refusalNumber reasonOf
 saidBy (Accepted length phrases) = record { number = 0; offset = length; phrases = phrases }
-saidBy (Refused why at) = record { number = numberOf (reasonOf why); offset = at; phrases = 0 }
+saidBy (Refused why at) = record { number = refusalNumber (reasonOf why); offset = at; phrases = 0 }
 
 -- The answer is that of a judgement which is true of the bytes.
 pub record Meant (bytes : List ℕ) (answer : Judged) : Type 0 where

@@ -11,7 +11,7 @@ use Rattle.lent.specs.Numbers.{Bytes}
 use Rattle.lent.proofs.Zeros.{length-zeros, zeros-there, zeros-apart}
 use Rattle.meaning.specs.Books.{Book}
 use Rattle.format.specs.Refusals as format
-use Rattle.format.specs.Refusals.{numberOf}
+use Rattle.format.specs.Refusals.{refusalNumber}
 use Rattle.format.specs.Judged.{Judgement, accepted, refused, judged, AcceptedAs, Judges}
 use Rattle.format.proofs.Theorem.{judged-judges}
 use Rattle.records.proofs.Bytes.{all-bytes}
@@ -67,7 +67,7 @@ module _ (bytes before : List ℕ) (each : Bytes bytes) (large : tablesSize ≤ 
   outcome-judged (refused why offset) true-of = record {
     judgement = refused why offset;
     true-of = true-of;
-    says = ap (λ (r : format.Refusal). said (numberOf r) offset) (refusal-said why);
+    says = ap (λ (r : format.Refusal). said (refusalNumber r) offset) (refusal-said why);
     holds = λ k a l. blank-zero k l;
     past = blank-past;
     long = blank-long;

@@ -48,7 +48,7 @@ pub fn of_begun(answer: Begun) -> u32
     match answer {
         Begun::Done => 0,
         Begun::TooSmall => 1,
-        Begun::NotTables => 12,
+        Begun::NotPassed => 12,
     }
 }
 
@@ -87,7 +87,7 @@ pub fn of_fed(answer: Fed) -> TsuvrankheFed
             steps,
         } => took(taken, reports, steps),
         Fed::TooSmall => refused(1),
-        Fed::NotTables => refused(12),
+        Fed::NotPassed => refused(12),
         Fed::NoRoom => refused(10),
         Fed::TooLong => refused(11),
     }

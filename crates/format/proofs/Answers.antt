@@ -7,7 +7,7 @@ use Prim.Native.Nat.{ℕ, _-_, _≤_}
 use native.Mathlib.Omega.{arith}
 use lib.ListN.{length, getD}
 use Rattle.meaning.specs.Books.{Book}
-use Rattle.format.specs.Refusals.{Refusal, cut, kind, field, crossed, order, many, total, full, numberOf}
+use Rattle.format.specs.Refusals.{Refusal, cut, kind, field, crossed, order, many, total, full, refusalNumber}
 use Rattle.format.specs.Limits.{Bytes, Between}
 use Rattle.format.specs.Judged.{Judgement, accepted, refused, answerOf, judged, RefusedFor, AcceptedAs, Judges}
 use Rattle.format.proofs.Theorem.{judged-judges, judges-judged}
@@ -15,8 +15,8 @@ use Rattle.format.proofs.Theorem.{judged-judges, judges-judged}
 -- ── Numbers ──
 
 -- A refusal has a number from 2 to 9.
-pub number-range : (why : Refusal) → Between 2 9 (numberOf why)
-unfolding numberOf
+pub number-range : (why : Refusal) → Between 2 9 (refusalNumber why)
+unfolding refusalNumber
 number-range cut = omega arith
 number-range kind = omega arith
 number-range field = omega arith
@@ -30,8 +30,8 @@ number-range full = omega arith
 reasonOf : ℕ → Refusal
 reasonOf n = getD (cut ∷ kind ∷ field ∷ crossed ∷ order ∷ many ∷ total ∷ full ∷ []) (n - 2) cut
 
-reason-back : (why : Refusal) → reasonOf (numberOf why) ≡ why
-unfolding numberOf reasonOf
+reason-back : (why : Refusal) → reasonOf (refusalNumber why) ≡ why
+unfolding refusalNumber reasonOf
 reason-back cut = refl
 reason-back kind = refl
 reason-back field = refl
@@ -42,7 +42,7 @@ reason-back total = refl
 reason-back full = refl
 
 -- No two refusals share a number.
-pub number-once : (why other : Refusal) → numberOf why ≡ numberOf other → why ≡ other
+pub number-once : (why other : Refusal) → refusalNumber why ≡ refusalNumber other → why ≡ other
 number-once why other e = sym (reason-back why) ∙ ap reasonOf e ∙ reason-back other
 
 -- ── Answers ──
@@ -62,7 +62,7 @@ module _ (bytes : List ℕ) (h : Bytes bytes) where
 
   -- A refusal's number is answered, with an offset, exactly when the bytes are refused for that reason there.
   pub refusal-iff : (why : Refusal) (offset : ℕ)
-      → ((answerOf (judged bytes) .number ≡ numberOf why) × (answerOf (judged bytes) .offset ≡ offset)) ↔ RefusedFor bytes why offset
+      → ((answerOf (judged bytes) .number ≡ refusalNumber why) × (answerOf (judged bytes) .offset ≡ offset)) ↔ RefusedFor bytes why offset
   unfolding answerOf Judges
   refusal-iff why offset = (
     go (judged bytes) (judged-judges bytes h),
@@ -70,7 +70,7 @@ module _ (bytes : List ℕ) (h : Bytes bytes) where
         (ap (λ (j : Judgement). answerOf j .number) e, ap (λ (j : Judgement). answerOf j .offset) e),
   )
     where
-      go : (j : Judgement) → Judges bytes j → (answerOf j .number ≡ numberOf why) × (answerOf j .offset ≡ offset) → RefusedFor bytes why offset
+      go : (j : Judgement) → Judges bytes j → (answerOf j .number ≡ refusalNumber why) × (answerOf j .offset ≡ offset) → RefusedFor bytes why offset
       go (accepted book at) r e = absurd (omega (arith, number-range why))
       go (refused other at) r e = rw (number-once other why (e .0), e .1) at r
 

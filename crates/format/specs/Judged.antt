@@ -7,7 +7,7 @@ use Prim.Native.Nat.{ℕ, zero, suc, _+_, _≤_}
 use lib.Dec.{eqb}
 use lib.ListN.{length, take, drop, getD}
 use Rattle.meaning.specs.Books.{Gap, bounded, openFrom, Piece, Phrase, Book}
-use Rattle.format.specs.Refusals.{Refusal, cut, numberOf}
+use Rattle.format.specs.Refusals.{Refusal, cut, refusalNumber}
 use Rattle.format.specs.Limits.{Within}
 use Rattle.format.specs.Written.{phraseKind, boundedKind, endKind, written}
 use Rattle.format.specs.Stages.{Stage, start, headed, named, gapped, worded, ended, writtenTo, SoFar}
@@ -25,9 +25,9 @@ pub record Answer : Type 0 where
   pub phrases : ℕ
 
 unfoldable pub answerOf : Judgement → Answer
-unfolding numberOf
+unfolding refusalNumber
 answerOf (accepted book offset) = record { number = 0; offset = offset; phrases = length (book .phrases) }
-answerOf (refused why offset) = record { number = numberOf why; offset = offset; phrases = 0 }
+answerOf (refused why offset) = record { number = refusalNumber why; offset = offset; phrases = 0 }
 
 -- ── Reading on, past a record without a fault ──
 

@@ -20,15 +20,15 @@ pub data Refusal : Type 0 where
   -- this keyword brings the prefixes above 2,047
   full : Refusal
 
-unfoldable pub numberOf : Refusal → ℕ
-numberOf cut = 2
-numberOf kind = 3
-numberOf field = 4
-numberOf crossed = 5
-numberOf order = 6
-numberOf many = 7
-numberOf total = 8
-numberOf full = 9
+unfoldable pub refusalNumber : Refusal → ℕ
+refusalNumber cut = 2
+refusalNumber kind = 3
+refusalNumber field = 4
+refusalNumber crossed = 5
+refusalNumber order = 6
+refusalNumber many = 7
+refusalNumber total = 8
+refusalNumber full = 9
 
 -- Within one record 3 is looked at first, on the kind alone, then 2, 4, 5, 6, 7, 8, 9.
 unfoldable pub inOrder : List Refusal

@@ -4,7 +4,7 @@ use mathlib.Core.Path.{_≡_, refl}
 use mathlib.Core.List.{map}
 use Rattle.meaning.specs.Reports.{reports}
 use Rattle.meaning.specs.Automaton.{steps}
-use Rattle.format.specs.Refusals.{numberOf}
+use Rattle.format.specs.Refusals.{refusalNumber}
 use Rattle.format.specs.Judged.{judged}
 use Rattle.listing.specs.Decimal.{digits}
 use Rattle.listing.specs.Lines.{bookLine, refusedLine, hitLine, endLine, noStatement, letterLine}
@@ -12,5 +12,5 @@ use Rattle.listing.specs.Listing.{bookIn, letterIn, rightsOf, hitLines, 
 use Rattle.listing.specs.Examples.{Example, examples}
 
 pub examples-hold : map (λ (e : Example). listing (e .input)) examples ≡ map (λ (e : Example). e .output) examples
-unfolding examples listing linesOf bookIn letterIn letterLines wholeLetter cutLetter hitLines rightsOf lastLines judged numberOf reports steps bookLine refusedLine hitLine endLine noStatement letterLine digits
+unfolding examples listing linesOf bookIn letterIn letterLines wholeLetter cutLetter hitLines rightsOf lastLines judged refusalNumber reports steps bookLine refusedLine hitLine endLine noStatement letterLine digits
 examples-hold = refl

@@ -9,7 +9,7 @@ use Rattle.meaning.specs.Calls.{largestPlace}
 use Rattle.meaning.specs.Books.{Phrase, Book}
 use Rattle.meaning.specs.Reports.{Report, reports}
 use Rattle.meaning.specs.Automaton.{steps}
-use Rattle.format.specs.Refusals.{numberOf}
+use Rattle.format.specs.Refusals.{refusalNumber}
 use Rattle.format.specs.Judged.{Judgement, accepted, refused, judged}
 use Rattle.listing.specs.Lines.{bookLine, refusedLine, hitLine, endLine, noStatement, letterLine}
 
@@ -93,7 +93,7 @@ letterLines book letter =
 -- offset.
 unfoldable pub linesOf : Judgement → List ℕ → List ℕ
 linesOf (accepted book offset) letter = bookLine 0 offset (length (book .phrases)) ++ letterLines book letter
-linesOf (refused why offset) letter = refusedLine (numberOf why) offset
+linesOf (refused why offset) letter = refusedLine (refusalNumber why) offset
 
 -- The whole listing.
 unfoldable pub listing : List ℕ → List ℕ

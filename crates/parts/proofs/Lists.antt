@@ -98,7 +98,7 @@ module _ (t m part room out : List ℕ) (end : FeedEnd) (is : end ≡ feedOf t m
           → record { answer = listed.NotTaken; running = end .memory; room = end .room; out = out } ≡ listOf t m part room out
       go (fed.Took taken reports steps) e tag = absurd (omega arith)
       go fed.TooSmall e tag = listed-as fed.TooSmall e
-      go fed.NotTables e tag = listed-as fed.NotTables e
+      go fed.NotPassed e tag = listed-as fed.NotPassed e
       go fed.NoRoom e tag = listed-as fed.NoRoom e
       go fed.TooLong e tag = absurd (omega arith)
 
@@ -124,7 +124,7 @@ as-within t m part room out (fed.Took taken reports steps) e = (
 )
 as-within t m part room out fed.TooLong e = (omega arith, omega arith)
 as-within t m part room out fed.TooSmall e = (omega arith, omega arith)
-as-within t m part room out fed.NotTables e = (omega arith, omega arith)
+as-within t m part room out fed.NotPassed e = (omega arith, omega arith)
 as-within t m part room out fed.NoRoom e = (omega arith, omega arith)
 
 pub list-within : (t m part room out : List ℕ) (end : ListEnd) → end ≡ listOf t m part room out → Within part out end

@@ -41,7 +41,7 @@ unfolding said
 said-took (answers.Took k r s) taken reports steps e =
     ap (λ (x : Said). answers.Took (x .taken) (x .reports) (x .steps)) e
 said-took answers.TooSmall taken reports steps e = absurd (omega (arith, ap (λ (x : Said). x .number) e))
-said-took answers.NotTables taken reports steps e = absurd (omega (arith, ap (λ (x : Said). x .number) e))
+said-took answers.NotPassed taken reports steps e = absurd (omega (arith, ap (λ (x : Said). x .number) e))
 said-took answers.NoRoom taken reports steps e = absurd (omega (arith, ap (λ (x : Said). x .number) e))
 said-took answers.TooLong taken reports steps e = absurd (omega (arith, ap (λ (x : Said). x .number) e))
 
@@ -49,7 +49,7 @@ said-no-room : (a : Fed) → said a ≡ refusal 10 → a ≡ answers.NoRoom
 unfolding said
 said-no-room (answers.Took k r s) e = absurd (omega (arith, ap (λ (x : Said). x .number) e))
 said-no-room answers.TooSmall e = absurd (omega (arith, ap (λ (x : Said). x .number) e))
-said-no-room answers.NotTables e = absurd (omega (arith, ap (λ (x : Said). x .number) e))
+said-no-room answers.NotPassed e = absurd (omega (arith, ap (λ (x : Said). x .number) e))
 said-no-room answers.NoRoom e = refl
 said-no-room answers.TooLong e = absurd (omega (arith, ap (λ (x : Said). x .number) e))
 
@@ -57,7 +57,7 @@ said-too-long : (a : Fed) → said a ≡ refusal 11 → a ≡ answers.TooLong
 unfolding said
 said-too-long (answers.Took k r s) e = absurd (omega (arith, ap (λ (x : Said). x .number) e))
 said-too-long answers.TooSmall e = absurd (omega (arith, ap (λ (x : Said). x .number) e))
-said-too-long answers.NotTables e = absurd (omega (arith, ap (λ (x : Said). x .number) e))
+said-too-long answers.NotPassed e = absurd (omega (arith, ap (λ (x : Said). x .number) e))
 said-too-long answers.NoRoom e = absurd (omega (arith, ap (λ (x : Said). x .number) e))
 said-too-long answers.TooLong e = refl
 

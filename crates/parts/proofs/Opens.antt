@@ -59,7 +59,7 @@ module _ (t m out : List ℕ) (offset : ℕ) (end : BeginEnd) (is : end ≡ begi
           → record { answer = opened.Refused 0; tables = t; running = end .memory; out = out } ≡ begunOf t m out offset
       go begun.Done e tag = absurd (omega arith)
       go begun.TooSmall e tag = begun-as begun.TooSmall e
-      go begun.NotTables e tag = begun-as begun.NotTables e
+      go begun.NotPassed e tag = begun-as begun.NotPassed e
 
   pub begun-ready : end .answer ≡ begun.Done → (after : List ℕ) (r : ℕ) → left after r ≡ withLine out 0 (bookLine 0 offset (phraseCountIn t))
       → record { answer = opened.Ready r; tables = t; running = end .memory; out = after } ≡ begunOf t m out offset
@@ -108,7 +108,7 @@ ready-inside : (answer : Begun) (t m out : List ℕ) (offset : ℕ) → openedEn
 unfolding readyAs readyWith openedEnd
 ready-inside begun.Done t m out offset = line-inside out 0 (bookLine 0 offset (phraseCountIn t)) (omega arith) .inside
 ready-inside begun.TooSmall t m out offset = omega arith
-ready-inside begun.NotTables t m out offset = omega arith
+ready-inside begun.NotPassed t m out offset = omega arith
 
 as-inside : (says : Said) (t m out : List ℕ) → openedEnd (openedAs says t m out .answer) ≤ length out
 unfolding openedAs refusedWith begunOf openedEnd

@@ -8,7 +8,7 @@ use native.Mathlib.Omega.{arith}
 use lib.ListN.{length}
 use Rattle.lent.specs.Numbers.{Bytes}
 use Rattle.meaning.specs.Books.{Book}
-use Rattle.format.specs.Refusals.{numberOf}
+use Rattle.format.specs.Refusals.{refusalNumber}
 use Rattle.format.specs.Judged.{Judgement, accepted, refused, judged, Judges}
 use Rattle.format.proofs.Theorem.{judges-judged}
 use Rattle.format.proofs.Answers.{number-range}
@@ -39,7 +39,7 @@ begun-done : (answer : Begun) → begunNumber answer ≡ 0 → answer ≡ begun.
 unfolding begunNumber
 begun-done begun.Done e = refl
 begun-done begun.TooSmall e = absurd (omega arith)
-begun-done begun.NotTables e = absurd (omega arith)
+begun-done begun.NotPassed e = absurd (omega arith)
 
 module _ (bytes t m out : List ℕ) (held : Bytes m) (long : runningSize ≤ length m) (short : length bytes < 2 ^ 64)
     (answer : Built) (after : List ℕ) (built : BuiltRight bytes t answer after) (tables-held : Bytes after) (large : tablesSize ≤ length t) where
@@ -89,9 +89,9 @@ module _ (bytes t m out : List ℕ) (held : Bytes m) (long : runningSize ≤ len
   opens (accepted book offset) true-of says laid size = rw says (accepted-opens book offset true-of laid size)
   opens (refused why offset) true-of says zeros size =
       let end : OpenEnd = openedAs (saidBy answer) after m out in
-      let most : length (refusedLine (numberOf why) offset) ≤ longestLine
-      = refused-line-most (numberOf why) offset (omega (arith, number-range why)) (omega (arith, true-of .inside)) in
-      let right = refused-opens (numberOf why) offset (λ none. omega (arith, number-range why)) most end (ap (λ (s : Said). openedAs s after m out) says) in
+      let most : length (refusedLine (refusalNumber why) offset) ≤ longestLine
+      = refused-line-most (refusalNumber why) offset (omega (arith, number-range why)) (omega (arith, true-of .inside)) in
+      let right = refused-opens (refusalNumber why) offset (λ none. omega (arith, number-range why)) most end (ap (λ (s : Said). openedAs s after m out) says) in
       record { not-ready = right .0; text = right .1 }
 
   pub open-means : (end : OpenEnd) → end ≡ openOf bytes t m out → OpensAs (judged bytes) out end

@@ -38,7 +38,7 @@ readyWith t m out offset =
 unfoldable pub readyAs : Begun → List ℕ → List ℕ → List ℕ → ℕ → OpenEnd
 readyAs begun.Done t m out offset = readyWith t m out offset
 readyAs begun.TooSmall t m out offset = record { answer = opened.Refused 0; tables = t; running = m; out = out }
-readyAs begun.NotTables t m out offset = record { answer = opened.Refused 0; tables = t; running = m; out = out }
+readyAs begun.NotPassed t m out offset = record { answer = opened.Refused 0; tables = t; running = m; out = out }
 
 -- The letter begins.
 unfoldable pub begunOf : List ℕ → List ℕ → List ℕ → ℕ → OpenEnd
@@ -90,7 +90,7 @@ unfoldable pub listedAs : Fed → List ℕ → List ℕ → List ℕ → List �
 listedAs (fed.Took taken reports steps) t m room out = tookWith t m room out taken reports steps
 listedAs fed.TooLong t m room out = record { answer = listed.TooLong; running = m; room = room; out = out }
 listedAs fed.TooSmall t m room out = record { answer = listed.NotTaken; running = m; room = room; out = out }
-listedAs fed.NotTables t m room out = record { answer = listed.NotTaken; running = m; room = room; out = out }
+listedAs fed.NotPassed t m room out = record { answer = listed.NotTaken; running = m; room = room; out = out }
 listedAs fed.NoRoom t m room out = record { answer = listed.NotTaken; running = m; room = room; out = out }
 
 -- The part is fed.

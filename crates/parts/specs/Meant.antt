@@ -6,7 +6,7 @@ use Prim.Native.Nat.{ℕ, _+_, _*_, _/_, _≤_, _<_}
 use lib.ListN.{length, take}
 use Rattle.meaning.specs.Books.{Book}
 use Rattle.meaning.specs.Calls.{largestPlace, takes, reportsAfter, stepsAfter}
-use Rattle.format.specs.Refusals.{Refusal, numberOf}
+use Rattle.format.specs.Refusals.{Refusal, refusalNumber}
 use Rattle.format.specs.Judged.{Judgement, accepted, refused}
 use Rattle.scanner.specs.Meant.{TablesOf, RunningOf}
 use Rattle.listing.specs.Lines.{bookLine, refusedLine, longestLine}
@@ -37,7 +37,7 @@ pub record BookReady (book : Book) (offset : ℕ) (out : List ℕ) (end : OpenEn
 -- Of a refused book the line has the number and the offset.
 pub record BookRefused (why : Refusal) (offset : ℕ) (out : List ℕ) (end : OpenEnd) : Type 0 where
   pub not-ready : end .answer ≡ opened.Refused (openedEnd (end .answer))
-  pub text : longestLine ≤ length out → openedText end ≡ refusedLine (numberOf why) offset
+  pub text : longestLine ≤ length out → openedText end ≡ refusedLine (refusalNumber why) offset
 
 -- What a judgement of the book leads to.
 unfoldable pub OpensAs : Judgement → List ℕ → OpenEnd → Type 0

@@ -49,7 +49,7 @@ fn begin_letter(tables: &[u8], running: &mut [u8], out: &mut [u8], offset: u64) 
                 lent::size64(tables::phrase_count(tables)),
             ),
         },
-        Begun::TooSmall | Begun::NotTables => Opened::Refused { end: 0 },
+        Begun::TooSmall | Begun::NotPassed => Opened::Refused { end: 0 },
     }
 }
 
@@ -77,6 +77,6 @@ pub fn list_part(
             end: put_hits(tables, room, reports, out),
         },
         Fed::TooLong => Listed::TooLong,
-        Fed::TooSmall | Fed::NotTables | Fed::NoRoom => Listed::NotTaken,
+        Fed::TooSmall | Fed::NotPassed | Fed::NoRoom => Listed::NotTaken,
     }
 }

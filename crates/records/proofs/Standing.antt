@@ -21,7 +21,7 @@ use Rattle.records.specs.declared.records.Found.{Found}
 use Rattle.records.specs.declared.records.Found.the-variants.{Keyword, Refused}
 use Rattle.records.specs.declared.refusals.Refusal.the-variants.{Cut, Kind}
 use Rattle.records.proofs.Fields.{keyword-whole}
-use Rattle.records.specs.Records.{known, bodyOf, behind, Standing, whole, nothing, bodyAt, standingAt, saidOf, wholeAt, foundAs, readAt, ReadRight}
+use Rattle.records.specs.Records.{known, bodyOf, behind, Standing, whole, nothing, bodyAt, standingAt, standingOf, wholeAt, foundAs, readAt, ReadRight}
 
 -- ── Bodies of the table ──
 
@@ -123,7 +123,7 @@ module _ (body : List ℕ) where
 module _ (bytes : List ℕ) (at : ℕ) (in-bytes : Bytes bytes) where
   -- The answer for a record of kind k says that kind, its body and the offset behind it.
   abbrev Said : ℕ → Type 0
-  Said k = saidOf bytes (wholeAt bytes at k) ≡ whole k (bodyAt bytes at k) (at + (1 + bodyLength k))
+  Said k = standingOf bytes (wholeAt bytes at k) ≡ whole k (bodyAt bytes at k) (at + (1 + bodyLength k))
 
   module _ (k : ℕ) (long : bodyLength k ≤ length (drop (at + 1) bytes)) where
     body-long : length (bodyAt bytes at k) ≡ bodyLength k
@@ -135,33 +135,33 @@ module _ (bytes : List ℕ) (at : ℕ) (in-bytes : Bytes bytes) where
     body-bytes = all-take (λ x. x < 256) (bodyLength k) (drop (at + 1) bytes) (all-drop (λ x. x < 256) (at + 1) bytes in-bytes)
 
     header-said : k ≡ headerKind → Said k
-    unfolding saidOf wholeAt bodyLength
+    unfolding standingOf wholeAt bodyLength
     header-said e = rw e (ap (λ (l : List ℕ). whole headerKind l (at + 2)) (header-spelt (bodyAt bytes at headerKind) (rw e at body-long)))
 
     phrase-said : k ≡ phraseKind → Said k
-    unfolding saidOf wholeAt bodyLength
+    unfolding standingOf wholeAt bodyLength
     phrase-said e = rw e (ap (λ (l : List ℕ). whole phraseKind l (at + 4)) (phrase-spelt (bodyAt bytes at phraseKind) (rw e at body-bytes) (rw e at body-long)))
 
     bounded-said : k ≡ boundedKind → Said k
-    unfolding saidOf wholeAt bodyLength
+    unfolding standingOf wholeAt bodyLength
     bounded-said e = rw e (ap (λ (l : List ℕ). whole boundedKind l (at + 5)) (bounded-spelt (bodyAt bytes at boundedKind) (rw e at body-bytes) (rw e at body-long)))
 
     open-said : k ≡ openKind → Said k
-    unfolding saidOf wholeAt bodyLength
+    unfolding standingOf wholeAt bodyLength
     open-said e = rw e (ap (λ (l : List ℕ). whole openKind l (at + 3)) (number-spelt (bodyAt bytes at openKind) (rw e at body-bytes) (rw e at body-long)))
 
     end-said : k ≡ endKind → Said k
-    unfolding saidOf wholeAt bodyLength
+    unfolding standingOf wholeAt bodyLength
     end-said e = rw e (ap (λ (l : List ℕ). whole endKind l (at + 3)) (number-spelt (bodyAt bytes at endKind) (rw e at body-bytes) (rw e at body-long)))
 
     keyword-said : So (isKeyword k) → Said k
-    unfolding saidOf bodyAt
+    unfolding standingOf bodyAt
     keyword-said h =
         let low : keywordBase + 1 ≤ k = keyword-range k h .0 in
         let says : keywordBase + bodyLength k ≡ k = omega (arith, keyword-length k h) in
         let is : Keyword (at + 1) (bodyLength k) (behind at k) ≡ wholeAt bytes at k
         = keyword-whole bytes at k refl refl (λ e. omega arith) (λ e. omega arith) (λ e. omega arith) (λ e. omega arith) (λ e. omega arith) in
-        ap (saidOf bytes) (sym is) ∙ ap (λ (kind : ℕ). whole kind (take (bodyLength k) (drop (at + 1) bytes)) (at + (1 + bodyLength k))) says
+        ap (standingOf bytes) (sym is) ∙ ap (λ (kind : ℕ). whole kind (take (bodyLength k) (drop (at + 1) bytes)) (at + (1 + bodyLength k))) says
 
     record-said : So (known k) → Said k
     unfolding known
@@ -178,19 +178,19 @@ module _ (bytes : List ℕ) (at : ℕ) (in-bytes : Bytes bytes) where
 
   -- ── Whatever stands there ──
 
-  read-said : saidOf bytes (readAt bytes at) ≡ standingAt bytes at
-  unfolding readAt standingAt foundAs wholeAt saidOf
+  read-said : standingOf bytes (readAt bytes at) ≡ standingAt bytes at
+  unfolding readAt standingAt foundAs wholeAt standingOf
   read-said = go (leb (length bytes) at) (known (getD bytes at 0)) (ltb (length (drop (at + 1) bytes)) (bodyLength (getD bytes at 0))) refl
       (λ h l. record-said (getD bytes at 0) (ltb-false (length (drop (at + 1) bytes)) (bodyLength (getD bytes at 0)) l) h)
     where
       go : (past is short : Bool) → ltb (length (drop (at + 1) bytes)) (bodyLength (getD bytes at 0)) ≡ short
           → (So is → ltb (length (drop (at + 1) bytes)) (bodyLength (getD bytes at 0)) ≡ false → Said (getD bytes at 0))
           → (let stands : Standing = cond past (nothing cut (length bytes)) (cond (not is) (nothing kind at) (cond short (nothing cut at)
-          (whole (getD bytes at 0) (bodyAt bytes at (getD bytes at 0)) (at + (1 + bodyLength (getD bytes at 0)))))) in saidOf bytes (foundAs at stands) ≡ stands)
+          (whole (getD bytes at 0) (bodyAt bytes at (getD bytes at 0)) (at + (1 + bodyLength (getD bytes at 0)))))) in standingOf bytes (foundAs at stands) ≡ stands)
       go true is short e h = refl
       go false false short e h = refl
       go false true true e h = refl
       go false true false e h = h refl e
 
   pub read-right : {found : Found} → found ≡ readAt bytes at → ReadRight bytes at found
-  read-right e = record { exact = e; meant = ap (saidOf bytes) e ∙ read-said }
+  read-right e = record { exact = e; meant = ap (standingOf bytes) e ∙ read-said }

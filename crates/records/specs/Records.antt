@@ -48,15 +48,15 @@ standingAt bytes at =
 -- ── As the reader says it ──
 
 -- What each case of the reader's answer says was read: kind, body and the offset behind, or the refusal and its offset.
-unfoldable pub saidOf : List ℕ → Found → Standing
+unfoldable pub standingOf : List ℕ → Found → Standing
 unfolding twoBytes reasonOf
-saidOf bytes (Header edition next) = whole headerKind (edition ∷ []) (next .at)
-saidOf bytes (Phrase number rights next) = whole phraseKind (twoBytes (number .0) ++ rights ∷ []) (next .at)
-saidOf bytes (Bounded least most next) = whole boundedKind (twoBytes least ++ twoBytes most) (next .at)
-saidOf bytes (Open least next) = whole openKind (twoBytes least) (next .at)
-saidOf bytes (Keyword start length next) = whole (keywordBase + length) (take length (drop start bytes)) (next .at)
-saidOf bytes (End count next) = whole endKind (twoBytes count) (next .at)
-saidOf bytes (Refused why at) = nothing (reasonOf why) at
+standingOf bytes (Header edition next) = whole headerKind (edition ∷ []) (next .at)
+standingOf bytes (Phrase number rights next) = whole phraseKind (twoBytes (number .0) ++ rights ∷ []) (next .at)
+standingOf bytes (Bounded least most next) = whole boundedKind (twoBytes least ++ twoBytes most) (next .at)
+standingOf bytes (Open least next) = whole openKind (twoBytes least) (next .at)
+standingOf bytes (Keyword start length next) = whole (keywordBase + length) (take length (drop start bytes)) (next .at)
+standingOf bytes (End count next) = whole endKind (twoBytes count) (next .at)
+standingOf bytes (Refused why at) = nothing (reasonOf why) at
 
 abbrev pub cursorAt : ℕ → Cursor
 cursorAt at = record { at = at }
@@ -92,4 +92,4 @@ readAt bytes at = foundAs at (standingAt bytes at)
 -- What reading at an offset answers, and what that says.
 pub record ReadRight (bytes : List ℕ) (at : ℕ) (found : Found) : Type 0 where
   pub exact : found ≡ readAt bytes at
-  pub meant : saidOf bytes found ≡ standingAt bytes at
+  pub meant : standingOf bytes found ≡ standingAt bytes at

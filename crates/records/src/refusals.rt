@@ -1,6 +1,6 @@
 // Why a book is refused. Document 01's number for each case stands in the specification.
 ghost use mathlib.Core.Path.{_≡_};
-ghost use Rattle.format.specs.Refusals.{numberOf};
+ghost use Rattle.format.specs.Refusals.{refusalNumber};
 ghost use Rattle.records.specs.Refusals.{reasonOf};
 
 pub enum Refusal {
@@ -25,7 +25,7 @@ pub enum Refusal {
 impl Refusal {
     // Document 01's number for the reason.
     pub fn number(self) -> u8
-        ensures { λ r. ⌜ r ≡ numberOf (reasonOf self) ⌝ }
+        ensures { λ r. ⌜ r ≡ refusalNumber (reasonOf self) ⌝ }
     {
         match self {
             Refusal::Cut => 2,

@@ -63,7 +63,7 @@ fn said(answer: Fed, room: &[u32; ROOM]) -> Took {
             Took { taken, steps }
         }
         Fed::TooSmall => Took { taken: 0, steps: 0 },
-        Fed::NotTables => Took { taken: 0, steps: 0 },
+        Fed::NotPassed => Took { taken: 0, steps: 0 },
         Fed::NoRoom => {
             text(b" refused with 10");
             Took { taken: 0, steps: 0 }
@@ -108,7 +108,7 @@ fn begun(tables: &[u8], running: &mut [u8]) -> bool {
     match answer {
         Begun::Done => true,
         Begun::TooSmall => false,
-        Begun::NotTables => false,
+        Begun::NotPassed => false,
     }
 }
 

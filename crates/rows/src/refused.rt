@@ -21,7 +21,7 @@ const NO_ROOM: u64 = 10;
 
 const TOO_LONG: u64 = 11;
 
-const NOT_TABLES: u64 = 12;
+const NOT_PASSED: u64 = 12;
 
 // ── What has changed ──
 
@@ -79,7 +79,7 @@ fn begin_number(answer: Begun) -> u64 {
     match answer {
         Begun::Done => 0,
         Begun::TooSmall => 1,
-        Begun::NotTables => NOT_TABLES,
+        Begun::NotPassed => NOT_PASSED,
     }
 }
 
@@ -104,7 +104,7 @@ fn said(answer: Fed) {
             steps,
         } => say(0, taken, reports, steps),
         Fed::TooSmall => say(1, 0, 0, 0),
-        Fed::NotTables => say(NOT_TABLES, 0, 0, 0),
+        Fed::NotPassed => say(NOT_PASSED, 0, 0, 0),
         Fed::NoRoom => say(NO_ROOM, 0, 0, 0),
         Fed::TooLong => say(TOO_LONG, 0, 0, 0),
     }

@@ -29,7 +29,7 @@ module _ (t m : List ℕ) where
   unfolding beginOf
   begin-small e = rw e
 
-  pub begin-not-tables : tooSmall t m ≡ false → tablesPass t ≡ false → beginOf t m ≡ record { answer = begun.NotTables; memory = m }
+  pub begin-not-tables : tooSmall t m ≡ false → tablesPass t ≡ false → beginOf t m ≡ record { answer = begun.NotPassed; memory = m }
   unfolding beginOf
   begin-not-tables e p = rw (e, p)
 
@@ -76,12 +76,12 @@ module _ (t m part room : List ℕ) where
   feed-small e = rw e
 
   module _ (large : tooSmall t m ≡ false) where
-    pub feed-not-tables : tablesPass t ≡ false → feedOf t m part room ≡ record { answer = fed.NotTables; memory = m; room = room }
+    pub feed-not-tables : tablesPass t ≡ false → feedOf t m part room ≡ record { answer = fed.NotPassed; memory = m; room = room }
     unfolding feedOf
     feed-not-tables p = rw (large, p)
 
     module _ (tables-pass : tablesPass t ≡ true) where
-      pub feed-not-running : runningPass t m ≡ false → feedOf t m part room ≡ record { answer = fed.NotTables; memory = m; room = room }
+      pub feed-not-running : runningPass t m ≡ false → feedOf t m part room ≡ record { answer = fed.NotPassed; memory = m; room = room }
       unfolding feedOf
       feed-not-running q = rw (large, tables-pass, q)
 

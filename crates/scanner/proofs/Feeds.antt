@@ -204,7 +204,7 @@ feed-promised t m part room end e = rw e (record {
 })
   where
     refused : tablesSize ≤ length t → runningSize ≤ length m → (v : Bool) → tablesPass t ≡ v → (tablesPass t ≡ false) ⊎ (runningPass t m ≡ false)
-        → feedOf t m part room ≡ record { answer = answers.NotTables; memory = m; room = room }
+        → feedOf t m part room ≡ record { answer = answers.NotPassed; memory = m; room = room }
     refused a b false p h = feed-not-tables t m part room (large t m a b) p
     refused a b true p (inl q) = feed-not-tables t m part room (large t m a b) q
     refused a b true p (inr q) = feed-not-running t m part room (large t m a b) p q

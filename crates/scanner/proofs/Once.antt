@@ -28,13 +28,13 @@ use Rattle.scanner.specs.declared.Fed.the-variants as answers
 
 -- The case that says a number.
 begunBy : ℕ → Begun
-begunBy number = cond (eqb number 0) begun.Done (cond (eqb number 1) begun.TooSmall begun.NotTables)
+begunBy number = cond (eqb number 0) begun.Done (cond (eqb number 1) begun.TooSmall begun.NotPassed)
 
 begun-by : (answer : Begun) → begunBy (begunNumber answer) ≡ answer
 unfolding begunNumber begunBy
 begun-by begun.Done = refl
 begun-by begun.TooSmall = refl
-begun-by begun.NotTables = refl
+begun-by begun.NotPassed = refl
 
 pub begun-once : (first second : Begun) → begunNumber first ≡ begunNumber second → first ≡ second
 begun-once first second e = sym (begun-by first) ∙ ap begunBy e ∙ begun-by second
@@ -44,14 +44,14 @@ fedBy : Said → Fed
 fedBy says =
     cond (eqb (says .number) 0) (answers.Took (says .taken) (says .reports) (says .steps))
     (cond (eqb (says .number) 1) answers.TooSmall
-    (cond (eqb (says .number) 12) answers.NotTables
+    (cond (eqb (says .number) 12) answers.NotPassed
     (cond (eqb (says .number) 10) answers.NoRoom answers.TooLong)))
 
 fed-by : (answer : Fed) → fedBy (said answer) ≡ answer
 unfolding said fedBy
 fed-by (answers.Took taken reports steps) = refl
 fed-by answers.TooSmall = refl
-fed-by answers.NotTables = refl
+fed-by answers.NotPassed = refl
 fed-by answers.NoRoom = refl
 fed-by answers.TooLong = refl
 

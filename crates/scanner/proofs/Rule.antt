@@ -57,11 +57,11 @@ module _ (t m part room : List ℕ) where
       at-room a b c (inr l) = at-place a b c l (lt-or-le (largestPlace - placeHeld m) (length part))
 
       at-running : tooSmall t m ≡ false → tablesPass t ≡ true → (v : Bool) → runningPass t m ≡ v → Either
-      at-running a b false c = refused answers.NotTables (feed-not-running t m part room a b c) (λ z. omega arith)
+      at-running a b false c = refused answers.NotPassed (feed-not-running t m part room a b c) (λ z. omega arith)
       at-running a b true c = at-room a b c (lt-or-le (length room / 2) (phraseCountIn t))
 
       at-tables : tooSmall t m ≡ false → (v : Bool) → tablesPass t ≡ v → Either
-      at-tables a false b = refused answers.NotTables (feed-not-tables t m part room a b) (λ z. omega arith)
+      at-tables a false b = refused answers.NotPassed (feed-not-tables t m part room a b) (λ z. omega arith)
       at-tables a true b = at-running a b (runningPass t m) refl
 
       at-size : (v : Bool) → tooSmall t m ≡ v → Either

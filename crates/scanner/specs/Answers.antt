@@ -9,7 +9,7 @@ use Rattle.scanner.specs.declared.Fed.the-variants as fed
 unfoldable pub begunNumber : Begun → ℕ
 begunNumber begun.Done = 0
 begunNumber begun.TooSmall = 1
-begunNumber begun.NotTables = 12
+begunNumber begun.NotPassed = 12
 
 -- What feed gives: the number, the bytes taken, the reports written, the failure steps.
 pub record Said : Type 0 where
@@ -25,6 +25,6 @@ refusal number = record { number = number; taken = 0; reports = 0; steps = 0 }
 unfoldable pub said : Fed → Said
 said (fed.Took taken reports steps) = record { number = 0; taken = taken; reports = reports; steps = steps }
 said fed.TooSmall = refusal 1
-said fed.NotTables = refusal 12
+said fed.NotPassed = refusal 12
 said fed.NoRoom = refusal 10
 said fed.TooLong = refusal 11

@@ -31,7 +31,7 @@ begunWell memory = record { answer = begun.Done; memory = memory }
 unfoldable pub beginOf : List ℕ → List ℕ → BeginEnd
 beginOf t m =
     cond (tooSmall t m) (record { answer = begun.TooSmall; memory = m })
-    (cond (tablesPass t) (begunWell (begunWith t m)) (record { answer = begun.NotTables; memory = m }))
+    (cond (tablesPass t) (begunWell (begunWith t m)) (record { answer = begun.NotPassed; memory = m }))
 
 -- ── Feed ──
 
@@ -58,7 +58,7 @@ tookFrom t m part room state place =
 -- Refused with 1, 12, 10, 11, in this order, with nothing changed; else bytes are taken from the state and the place in the memory.
 unfoldable pub feedOf : List ℕ → List ℕ → List ℕ → List ℕ → FeedEnd
 feedOf t m part room =
-    let none : FeedEnd = record { answer = fed.NotTables; memory = m; room = room } in
+    let none : FeedEnd = record { answer = fed.NotPassed; memory = m; room = room } in
     let took : FeedEnd = tookFrom t m part room (stateHeld m) (placeHeld m) in
     cond (tooSmall t m) (record { answer = fed.TooSmall; memory = m; room = room })
     (cond (tablesPass t)

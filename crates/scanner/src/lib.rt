@@ -29,7 +29,7 @@ pub enum Begun {
     // tables or running memory are shorter than their size
     TooSmall,
     // the tables do not pass the test of document 01
-    NotTables,
+    NotPassed,
 }
 
 // What feed answers.
@@ -43,7 +43,7 @@ pub enum Fed {
     // tables or running memory are shorter than their size
     TooSmall,
     // the tables do not pass the test of document 01, or the running memory was not begun with them
-    NotTables,
+    NotPassed,
     // the room is not enough for a report of every phrase
     NoRoom,
     // the part would pass the largest place
@@ -119,7 +119,7 @@ pub fn begin(tables: &[u8], running: &mut [u8]) -> Begun
         return Begun::TooSmall;
     }
     if !tables::passes(tables) {
-        return Begun::NotTables;
+        return Begun::NotPassed;
     }
     write_begun(tables, running);
     Begun::Done
@@ -155,10 +155,10 @@ pub fn feed(tables: &[u8], running: &mut [u8], part: &[u8], room: &mut [u32]) ->
         return Fed::TooSmall;
     }
     if !tables::passes(tables) {
-        return Fed::NotTables;
+        return Fed::NotPassed;
     }
     if !running_passes(tables, running) {
-        return Fed::NotTables;
+        return Fed::NotPassed;
     }
     if room.len() / 2 < tables::phrase_count(tables) {
         return Fed::NoRoom;

@@ -1,7 +1,7 @@
 //! A desk that lends memory to the calls and looks at all of it afterwards: what was to be written, and what was to be left alone.
 use crate::expected::Expected;
 use crate::fenced::Fenced;
-use crate::library::{self, Built, Fed, DONE, NOT_TABLES, NO_ROOM, TOO_SMALL};
+use crate::library::{self, Built, Fed, DONE, NOT_PASSED, NO_ROOM, TOO_SMALL};
 
 /// How many bytes are lent past a published size, when more is lent than needed.
 const MARGIN: usize = 37;
@@ -95,7 +95,7 @@ impl Desk {
             let tables = self.tables.last(size + self.margin);
             assert_eq!(
                 library::begin(tables, running),
-                NOT_TABLES,
+                NOT_PASSED,
                 "zeroed tables, begin"
             );
         }
@@ -193,8 +193,8 @@ impl Desk {
         let (enough, below) = (2 * expected.phrases(), 2 * expected.phrases() - 1);
         feed_refuses(TOO_SMALL, &tables[1..], &running, b"a", enough);
         feed_refuses(TOO_SMALL, &tables, &running[1..], b"a", enough);
-        feed_refuses(NOT_TABLES, &zeros, &running, b"a", enough);
-        feed_refuses(NOT_TABLES, &tables, &zeros[..running.len()], b"a", enough);
+        feed_refuses(NOT_PASSED, &zeros, &running, b"a", enough);
+        feed_refuses(NOT_PASSED, &tables, &zeros[..running.len()], b"a", enough);
         feed_refuses(NO_ROOM, &tables, &running, b"a", below);
         feed_refuses(NO_ROOM, &tables, &running, b"", below);
         self.seen.refused += 6;

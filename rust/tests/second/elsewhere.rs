@@ -3,7 +3,7 @@
 use crate::chance::Chance;
 use crate::fenced::Fenced;
 use crate::letters;
-use crate::library::{self, Fed, DONE, NOT_TABLES, NO_ROOM, TOO_LONG};
+use crate::library::{self, Fed, DONE, NOT_PASSED, NO_ROOM, TOO_LONG};
 use crate::shapes;
 use std::sync::mpsc;
 use std::thread;
@@ -85,7 +85,7 @@ impl Lab {
         self.timed(started);
         match begun {
             DONE => self.feed_twice(part),
-            NOT_TABLES => assert!(self.running[..] == *running, "begin, refused, wrote"),
+            NOT_PASSED => assert!(self.running[..] == *running, "begin, refused, wrote"),
             other => panic!("begin answers {other}"),
         }
         assert!(self.tables[..] == *tables, "the tables were written");
@@ -98,7 +98,7 @@ impl Lab {
         let (after, room) = (self.running.to_vec(), self.room.to_vec());
         if fed.number != DONE {
             assert!(
-                [NOT_TABLES, NO_ROOM, TOO_LONG].contains(&fed.number),
+                [NOT_PASSED, NO_ROOM, TOO_LONG].contains(&fed.number),
                 "feed answers {}",
                 fed.number
             );

@@ -5,7 +5,7 @@ use crate::desk::{all_are, feed_refuses};
 use crate::expected::Expected;
 use crate::fenced::Fenced;
 use crate::letters;
-use crate::library::{self, DONE, NOT_TABLES, NO_ROOM, TOO_LONG, TOO_SMALL};
+use crate::library::{self, DONE, NOT_PASSED, NO_ROOM, TOO_LONG, TOO_SMALL};
 use crate::shapes;
 
 const LARGEST_PLACE: usize = 4_294_967_295;
@@ -126,12 +126,12 @@ fn zeroed_memory_never_passes() {
     let (tables, running) = begun(&zeros_end_phrases());
     let no_tables = vec![0; tables.len()];
     let mut anything = vec![UNTOUCHED; running.len()];
-    assert_eq!(library::begin(&no_tables, &mut anything), NOT_TABLES);
+    assert_eq!(library::begin(&no_tables, &mut anything), NOT_PASSED);
     assert!(all_are(&anything, UNTOUCHED), "begin, refused, wrote");
     let too_long = Fenced::letter_of_zeros(LARGEST_PLACE + 1);
     for part in [&[][..], &[0; 9], &too_long] {
-        feed_refuses(NOT_TABLES, &no_tables, &running, part, 0);
-        feed_refuses(NOT_TABLES, &tables, &no_tables[..running.len()], part, 0);
+        feed_refuses(NOT_PASSED, &no_tables, &running, part, 0);
+        feed_refuses(NOT_PASSED, &tables, &no_tables[..running.len()], part, 0);
     }
 }
 

@@ -37,7 +37,7 @@ pub const DONE: u32 = 0;
 pub const TOO_SMALL: u32 = 1;
 pub const NO_ROOM: u32 = 10;
 pub const TOO_LONG: u32 = 11;
-pub const NOT_TABLES: u32 = 12;
+pub const NOT_PASSED: u32 = 12;
 
 #[rustfmt::skip]
 extern "C" {

@@ -2,7 +2,7 @@
 -- Assumes nothing.
 use mathlib.Core.Path.{sym, ap}
 use borrow.Author.Needs.{needs}
-use Rattle.format.specs.Refusals.{numberOf}
+use Rattle.format.specs.Refusals.{refusalNumber}
 use Rattle.records.specs.declared.refusals.Refusal.{Refusal}
 use Rattle.records.specs.Refusals.{reasonOf}
 use Rattle.records.proofs.refusals.Refusal.number.Statement.{statement}
@@ -33,36 +33,36 @@ enum-told-8 : tie.Need-enum-told-8
 enum-told-8 c = search needs
 
 returns : tie.Need-returns
-unfolding numberOf reasonOf
-returns c = ap (λ (why : Refusal). numberOf (reasonOf why)) (sym (c .enum-told .given .1))
+unfolding refusalNumber reasonOf
+returns c = ap (λ (why : Refusal). refusalNumber (reasonOf why)) (sym (c .enum-told .given .1))
 
 returns-2 : tie.Need-returns-2
-unfolding numberOf reasonOf
-returns-2 c = ap (λ (why : Refusal). numberOf (reasonOf why)) (sym (c .enum-told2 .given .1))
+unfolding refusalNumber reasonOf
+returns-2 c = ap (λ (why : Refusal). refusalNumber (reasonOf why)) (sym (c .enum-told2 .given .1))
 
 returns-3 : tie.Need-returns-3
-unfolding numberOf reasonOf
-returns-3 c = ap (λ (why : Refusal). numberOf (reasonOf why)) (sym (c .enum-told3 .given .1))
+unfolding refusalNumber reasonOf
+returns-3 c = ap (λ (why : Refusal). refusalNumber (reasonOf why)) (sym (c .enum-told3 .given .1))
 
 returns-4 : tie.Need-returns-4
-unfolding numberOf reasonOf
-returns-4 c = ap (λ (why : Refusal). numberOf (reasonOf why)) (sym (c .enum-told4 .given .1))
+unfolding refusalNumber reasonOf
+returns-4 c = ap (λ (why : Refusal). refusalNumber (reasonOf why)) (sym (c .enum-told4 .given .1))
 
 returns-5 : tie.Need-returns-5
-unfolding numberOf reasonOf
-returns-5 c = ap (λ (why : Refusal). numberOf (reasonOf why)) (sym (c .enum-told5 .given .1))
+unfolding refusalNumber reasonOf
+returns-5 c = ap (λ (why : Refusal). refusalNumber (reasonOf why)) (sym (c .enum-told5 .given .1))
 
 returns-6 : tie.Need-returns-6
-unfolding numberOf reasonOf
-returns-6 c = ap (λ (why : Refusal). numberOf (reasonOf why)) (sym (c .enum-told6 .given .1))
+unfolding refusalNumber reasonOf
+returns-6 c = ap (λ (why : Refusal). refusalNumber (reasonOf why)) (sym (c .enum-told6 .given .1))
 
 returns-7 : tie.Need-returns-7
-unfolding numberOf reasonOf
-returns-7 c = ap (λ (why : Refusal). numberOf (reasonOf why)) (sym (c .enum-told7 .given .1))
+unfolding refusalNumber reasonOf
+returns-7 c = ap (λ (why : Refusal). refusalNumber (reasonOf why)) (sym (c .enum-told7 .given .1))
 
 returns-8 : tie.Need-returns-8
-unfolding numberOf reasonOf
-returns-8 c = ap (λ (why : Refusal). numberOf (reasonOf why)) (sym (c .enum-told8 .given .1))
+unfolding refusalNumber reasonOf
+returns-8 c = ap (λ (why : Refusal). refusalNumber (reasonOf why)) (sym (c .enum-told8 .given .1))
 
 pub number-spec : {M : Type 1} → statement M
 number-spec =
