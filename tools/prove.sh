@@ -62,8 +62,12 @@ answers=$folders/answers
 rm -f "$answers"
 mkfifo "$answers" && exec 3<>"$answers" && rm -f "$answers" || exit 2
 
+. "$top/tools/in_memory.sh"
+in_memory=$(folder_in_memory)
+[ -z "$in_memory" ] || export TMPDIR="$in_memory"
+
 # Interrupted, it ends the proofs that are under way: they would run on beside those of the next run, since a shell's background jobs ignore an interrupt.
-trap 'for crate in $under_way; do kill -- "-$(cat "$folders/$crate/pid")" 2>/dev/null; done' EXIT
+trap 'for crate in $under_way; do kill -- "-$(cat "$folders/$crate/pid")" 2>/dev/null; done; [ -z "$in_memory" ] || rm -rf "$in_memory"' EXIT
 trap 'exit 2' HUP INT TERM
 
 left=$(plan) proved=' ' under_way=' ' running=0 status=0

@@ -19,24 +19,19 @@ fn opened(argument: usize) -> i32 {
     file
 }
 
-fn list(book: i32, letter: i32) {
-    stream::list_two(book, letter, STDOUT_FILENO, STDERR_FILENO);
-}
-
 fn main() {
     let book = opened(BOOK);
     if book < 0 {
         io::write_all(STDERR_FILENO, b"the book could not be opened\n");
         return;
     }
-    if os::arg_count() <= LETTER {
-        list(book, STDIN_FILENO);
-        return;
+    let mut letter = STDIN_FILENO;
+    if LETTER < os::arg_count() {
+        letter = opened(LETTER);
     }
-    let letter = opened(LETTER);
     if letter < 0 {
         io::write_all(STDERR_FILENO, b"the letter could not be opened\n");
         return;
     }
-    list(book, letter);
+    stream::list_two(book, letter, STDOUT_FILENO, STDERR_FILENO);
 }
