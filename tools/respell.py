@@ -17,7 +17,7 @@ NAME = r"[A-Za-z_\u2080-\u2089][\w'\-\u2080-\u2089]*"
 TOKEN = re.compile(NAME)
 MODIFIERS = {"abbrev", "pub", "unfoldable"}
 DECLARED = re.compile(r"^(\s*)((?:(?:abbrev|unfoldable|pub)\s+)*)(" + NAME + r"(?:\s+" + NAME + r")*)\s*:(?:\s|$)")
-PROVES_A_FUNCTION = re.compile(r"/(Proof|Answers|Invariants)\.antt$")
+PROVES_A_FUNCTION = re.compile(r"/proofs/.+/(Proof|Answers|Invariants)\.antt$")
 # Names in snake case already that a definition's new name falls on, and that are fields elsewhere: the files where they are lemmas.
 LEMMAS_HERE = {
     "goes_on": {"crates/book/proofs/Reading.antt"},
@@ -48,7 +48,8 @@ def declared(files):
             continue
         folder = path.split("/")[2]
         record = None
-        for line in read(path).splitlines():
+        # a name may stand on a line of its own, with its type below
+        for line in re.sub(r"(?m)^(\s*(?:(?:abbrev|unfoldable|pub)\s+)*[a-z][\w'-]*)\n(?=\s+:)", r"\1 :\n", read(path)).splitlines():
             if not line.strip() or line.lstrip().startswith("--"):
                 continue
             indent = len(line) - len(line.lstrip())
