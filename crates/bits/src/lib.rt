@@ -1,4 +1,6 @@
 // The bits of a number: one is set, and the next one that is set is found.
+#![tactic(auto)]
+
 ghost use Rattle.std.specs.Prelude.{◌≡◌, ◌≤◌, ◌<◌};
 ghost use Rattle.bits.specs.Bits.{bit_of, set_bit, First};
 

@@ -1,21 +1,23 @@
 // Counters that cannot be taken for each other: states of the automaton, places in the letter and phrase numbers, and
 // beside these three the rank of a phrase in its book. The number inside is private: only these functions make or read one.
+#![tactic(auto)]
+
 ghost use Rattle.std.specs.Prelude.{◌≡◌, ◌+◌, ◌≤◌, ◌<◌, ltb};
 
 // The number of a state of the automaton.
-#[derive(Drop)]
+#[derive(Clone, Copy)]
 pub struct State(u16);
 
 // A place in the letter: the number of bytes read. Closing places pass 32 bits.
-#[derive(Drop)]
+#[derive(Clone, Copy)]
 pub struct Place(u64);
 
 // The number of a phrase, as the book has it.
-#[derive(Drop)]
+#[derive(Clone, Copy)]
 pub struct Number(u16);
 
 // The index of a phrase in its book, the first being 0.
-#[derive(Drop)]
+#[derive(Clone, Copy)]
 pub struct Rank(u8);
 
 impl State {

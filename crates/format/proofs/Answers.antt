@@ -15,16 +15,16 @@ use Rattle.format.proofs.Theorem.{judged_judges, judges_judged}
 -- ── Numbers ──
 
 -- A refusal has a number from 2 to 9.
-pub number-range : (why : Refusal) → Between 2 9 (refusal_number why)
+pub number_range : (why : Refusal) → Between 2 9 (refusal_number why)
 unfolding refusal_number
-number-range cut = omega arith
-number-range kind = omega arith
-number-range field = omega arith
-number-range crossed = omega arith
-number-range order = omega arith
-number-range many = omega arith
-number-range total = omega arith
-number-range full = omega arith
+number_range cut = omega arith
+number_range kind = omega arith
+number_range field = omega arith
+number_range crossed = omega arith
+number_range order = omega arith
+number_range many = omega arith
+number_range total = omega arith
+number_range full = omega arith
 
 -- The refusal of a number: they are counted from 2 on.
 reason_of : ℕ → Refusal
@@ -42,42 +42,42 @@ reason_back total = refl
 reason_back full = refl
 
 -- No two refusals share a number.
-pub number-once : (why other : Refusal) → refusal_number why ≡ refusal_number other → why ≡ other
-number-once why other e = sym (reason_back why) ∙ ap reason_of e ∙ reason_back other
+pub number_once : (why other : Refusal) → refusal_number why ≡ refusal_number other → why ≡ other
+number_once why other e = sym (reason_back why) ∙ ap reason_of e ∙ reason_back other
 
 -- ── Answers ──
 
 module _ (bytes : List ℕ) (h : Bytes bytes) where
   -- 0 is answered exactly when the bytes are the written form of a book within the limits.
-  pub zero-iff : ((answer_of (judged bytes)).number ≡ 0) ↔ ((book : Book) × AcceptedAs bytes book)
+  pub zero_iff : ((answer_of (judged bytes)).number ≡ 0) ↔ ((book : Book) × AcceptedAs bytes book)
   unfolding answer_of Judges
-  zero-iff = (
+  zero_iff = (
     go (judged bytes) (judged_judges bytes h),
     λ a. ap (λ (j : Judgement). (answer_of j).number) (judges_judged bytes (accepted a.0 (length bytes)) (a.1, refl)),
   )
     where
       go : (j : Judgement) → Judges bytes j → (answer_of j).number ≡ 0 → (book : Book) × AcceptedAs bytes book
       go (accepted book offset) r e = (book, r.0)
-      go (refused why offset) r e = absurd (omega (arith, number-range why))
+      go (refused why offset) r e = absurd (omega (arith, number_range why))
 
   -- A refusal's number is answered, with an offset, exactly when the bytes are refused for that reason there.
-  pub refusal-iff : (why : Refusal) (offset : ℕ)
+  pub refusal_iff : (why : Refusal) (offset : ℕ)
       → (((answer_of (judged bytes)).number ≡ refusal_number why) × ((answer_of (judged bytes)).offset ≡ offset)) ↔ RefusedFor bytes why offset
   unfolding answer_of Judges
-  refusal-iff why offset = (
+  refusal_iff why offset = (
     go (judged bytes) (judged_judges bytes h),
     λ r. let e : judged bytes ≡ refused why offset = judges_judged bytes (refused why offset) r in
         (ap (λ (j : Judgement). (answer_of j).number) e, ap (λ (j : Judgement). (answer_of j).offset) e),
   )
     where
       go : (j : Judgement) → Judges bytes j → ((answer_of j).number ≡ refusal_number why) × ((answer_of j).offset ≡ offset) → RefusedFor bytes why offset
-      go (accepted book at) r e = absurd (omega (arith, number-range why))
-      go (refused other at) r e = rw (number-once other why e.0, e.1) at r
+      go (accepted book at) r e = absurd (omega (arith, number_range why))
+      go (refused other at) r e = rw (number_once other why e.0, e.1) at r
 
   -- The offset is no further than the book's length.
-  pub offset-inside : (answer_of (judged bytes)).offset ≤ length bytes
+  pub offset_inside : (answer_of (judged bytes)).offset ≤ length bytes
   unfolding answer_of Judges
-  offset-inside = go (judged bytes) (judged_judges bytes h)
+  offset_inside = go (judged bytes) (judged_judges bytes h)
     where
       go : (j : Judgement) → Judges bytes j → (answer_of j).offset ≤ length bytes
       go (accepted book at) r = omega arith

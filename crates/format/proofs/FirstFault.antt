@@ -91,7 +91,7 @@ module _ (behind : List ℕ) where
         ≡ cond (ltb (length behind) (k - keyword_base)) (some cut)
         (cond (ltb most_prefixes (prefix_count (keywords (phrases_at stage) ++ take (k - keyword_base) behind ∷ []))) (some full) none)
     unfolding first_fault
-    keyword_fault k h a = simp (a, h, keyword_length k h, keyword_only k h)
+    keyword_fault k h a = simp (a, h, keyword_only k h)
 
 -- ── No fault ──
 

@@ -1,7 +1,7 @@
 -- Bytes written at a place stand there and nowhere else: each store changes one element, and the next one lies past it.
 -- Assumes nothing.
 use mathlib.Core.Path.{◌≡◌, refl, ap, ap₂, ◌∙◌}
-use mathlib.Core.Logic.{◌⊎◌, inl, inr, ⊎_elim}
+use mathlib.Core.Logic.{inl, inr, ⊎_elim}
 use mathlib.Core.List.{List, [], ◌∷◌, ◌++◌}
 use Prim.Native.Nat.{ℕ, zero, suc, ◌+◌, ◌≤◌, ◌<◌}
 use native.Mathlib.Nat.{add-zero, zero-add, suc-add}

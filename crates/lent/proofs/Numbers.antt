@@ -4,7 +4,6 @@ use mathlib.Core.Path.{◌≡◌, sym, ap, ◌∙◌}
 use mathlib.Core.List.{List, [], ◌∷◌}
 use Prim.Native.Nat.{ℕ, ◌+◌, ◌*◌, ◌/◌, ◌%◌, ◌^◌, ◌≤◌, ◌<◌}
 use native.Mathlib.Nat.{mod-add-div, mod-lt, one-le-pow}
-use native.Mathlib.Omega.{arith}
 use lib.Dec.{lit<}
 use lib.ListN.{length, get_or, set}
 use Rattle.lent.specs.Numbers.{Bytes, bytes_at, with_bytes, low_first, high_first, low_bytes, high_bytes}
@@ -93,11 +92,11 @@ number_parts m n s i =
     ∙ low_first_split (bytes_at m s i) (bytes_at n s (i + m))
     ∙ ap (λ (l : ℕ). low_first (bytes_at m s i) + 256 ^ l * low_first (bytes_at n s (i + m))) (length_bytes_at m s i)
 
-pub with-number-parts
+pub with_number_parts
     : (m n : ℕ) (s : List ℕ) (i v : ℕ)
     → with_number (m + n) s i v ≡ with_number n (with_number m s i (v % 256 ^ m)) (i + m) (v / 256 ^ m)
 unfolding with_number
-with-number-parts m n s i v =
+with_number_parts m n s i v =
     let low : ℕ = v % 256 ^ m in
     let high : ℕ = v / 256 ^ m in
     ap (λ (w : ℕ). with_bytes s i (low_bytes (m + n) w)) (sym (mod-add-div v (256 ^ m)))
@@ -106,8 +105,8 @@ with-number-parts m n s i v =
     ∙ ap (λ (l : ℕ). with_bytes (with_bytes s i (low_bytes m low)) (i + l) (low_bytes n high)) (length_low_bytes m low)
 
 -- The low part stored, and the high part stored behind it, are the whole number stored.
-pub parts-stored
+pub parts_stored
     : (m n : ℕ) (s s₁ s₂ : List ℕ) (i v : ℕ)
     → s₁ ≡ with_number m s i (v % 256 ^ m) → s₂ ≡ with_number n s₁ (i + m) (v / 256 ^ m) → s₂ ≡ with_number (m + n) s i v
-parts-stored m n s s₁ s₂ i v low high =
-    high ∙ ap (λ (t : List ℕ). with_number n t (i + m) (v / 256 ^ m)) low ∙ sym (with-number-parts m n s i v)
+parts_stored m n s s₁ s₂ i v low high =
+    high ∙ ap (λ (t : List ℕ). with_number n t (i + m) (v / 256 ^ m)) low ∙ sym (with_number_parts m n s i v)

@@ -1,5 +1,7 @@
 // Numbers in lent bytes, read and written at an offset: of 2, 4 and 8 bytes low byte first, and of 2 bytes high byte first; and
 // bytes made zero.
+#![tactic(auto)]
+
 ghost use Rattle.std.specs.Prelude.{◌≡◌, ◌+◌, ◌≤◌, ◌<◌, length};
 ghost use Rattle.lent.specs.Numbers.{number_at, high_number_at, with_number, with_high_number};
 ghost use Rattle.lent.specs.Zeros.{with_zeros};

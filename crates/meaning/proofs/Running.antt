@@ -73,7 +73,11 @@ pub newest_kept : (width : List ℕ → ℕ) (x y : List ℕ) (pieces : List Pie
     → newest width (x ++ y) pieces piece place ≡ newest width x pieces piece place
 unfolding newest
 newest_kept width x y pieces piece place l =
-    latest_same _ _ place (λ k m. rw (ends_kept x y width pieces 0 k (omega arith), opened_kept k m))
+    latest_same
+    (λ k. ends width (x ++ y) 0 pieces k && opened width (x ++ y) piece place k)
+    (λ k. ends width x 0 pieces k && opened width x piece place k)
+    place
+    (λ k m. rw (ends_kept x y width pieces 0 k (omega arith), opened_kept k m))
   where
     opened_kept : (k : ℕ) → k ≤ place → opened width (x ++ y) piece place k ≡ opened width x piece place k
     opened_kept k m = rw (measured_kept width x y k (omega arith), measured_kept width x y (place - length piece.keyword) (omega arith))

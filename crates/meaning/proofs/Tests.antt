@@ -128,7 +128,7 @@ module _ (width : List ℕ → ℕ) (letter : List ℕ) where
   ends_iff (piece ∷ rest) previous place = (
     λ h. let r = (some_up_to_iff (λ next. follows width letter piece previous next && ends width letter next rest place) (length letter)).0 h in
         (r.0, (follows_iff piece previous r.0).0 (search (and_left)), (ends_iff rest r.0 place).0 (search (and_right))),
-    λ m. (some_up_to_iff _ (length letter)).1 (
+    λ m. (some_up_to_iff (λ next. follows width letter piece previous next && ends width letter next rest place) (length letter)).1 (
       m.0,
       m.1.filled.inside,
       both _ _ ((follows_iff piece previous m.0).1 m.1) ((ends_iff rest m.0 place).1 m.2),

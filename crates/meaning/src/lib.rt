@@ -1,1 +1,2 @@
 // No code: the definitions of what a scan means stand in specs/, their laws in proofs/.
+#![tactic(auto)]

@@ -1,5 +1,7 @@
 // Writes phrase books record by record onto lent bytes, sound ones and broken ones, for the programs that try the scanner.
 // Each function answers where the next byte goes; what does not fit is left out.
+#![tactic(auto)]
+
 ghost use Rattle.std.specs.Prelude.{◌≡◌, ◌∷◌, [], ◌+◌, ◌/◌, ◌%◌};
 ghost use Rattle.sheet.specs.Sheets.{Sheet, with_byte, with_all, with_many, two_bytes, header_of, phrase_of, bounded_of, open_of, end_of};
 
