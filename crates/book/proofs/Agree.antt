@@ -1,10 +1,10 @@
 -- Every whole record agrees with the format: its turn is that of its first fault, and it adds to the keywords what it adds to the
 -- stage's. Assumes nothing.
 use mathlib.Core.Path.{◌≡◌, refl, sym, ap, ◌∙◌}
-use mathlib.Core.Logic.{◌⊎◌, ⊎_elim}
-use mathlib.Core.Bool.{true, false, So, ◌||◌, false≢true}
+use mathlib.Core.Logic.{⊎_elim}
+use mathlib.Core.Bool.{So, ◌||◌, false≢true}
 use mathlib.Core.List.{List, [], ◌∷◌, ◌++◌, append-nil}
-use Prim.Native.Nat.{ℕ, ◌+◌, ◌-◌, ◌≤◌}
+use Prim.Native.Nat.{ℕ, ◌+◌, ◌≤◌}
 use lib.Dec.{eqb}
 use lib.ListN.{length, take, drop, get_or}
 use lib.Seq.{length-take-le}

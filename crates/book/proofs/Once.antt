@@ -6,21 +6,21 @@ use Prim.Native.Nat.{ℕ}
 use native.Mathlib.Omega.{arith}
 use Rattle.format.specs.Judged.{Answer, answer_of}
 use Rattle.format.proofs.Theorem.{judges_once}
-use Rattle.format.proofs.Answers.{number-range, number-once}
+use Rattle.format.proofs.Answers.{number_range, number_once}
 use Rattle.records.specs.Refusals.{reason_of, refusal_for}
 use Rattle.records.proofs.Names.{reason_back}
 use Rattle.book.specs.declared.answers.Judged.{Judged}
 use Rattle.book.specs.declared.answers.Judged.TheVariants.{Accepted, Refused}
-use Rattle.book.specs.Answers.{saidBy, Meant, JudgedRight}
+use Rattle.book.specs.Answers.{said_by, Meant, JudgedRight}
 
 -- No two answers of judge say the same.
-pub said_once : (a b : Judged) → saidBy a ≡ saidBy b → a ≡ b
-unfolding saidBy
+pub said_once : (a b : Judged) → said_by a ≡ said_by b → a ≡ b
+unfolding said_by
 said_once (Accepted length phrases) (Accepted other count) e = ap₂ Accepted (ap (λ (r : Answer). r.offset) e) (ap (λ (r : Answer). r.phrases) e)
-said_once (Accepted length phrases) (Refused why at) e = absurd (omega (arith, ap (λ (r : Answer). r.number) e, number-range (reason_of why)))
-said_once (Refused why at) (Accepted length phrases) e = absurd (omega (arith, ap (λ (r : Answer). r.number) e, number-range (reason_of why)))
+said_once (Accepted length phrases) (Refused why at) e = absurd (omega (arith, ap (λ (r : Answer). r.number) e, number_range (reason_of why)))
+said_once (Refused why at) (Accepted length phrases) e = absurd (omega (arith, ap (λ (r : Answer). r.number) e, number_range (reason_of why)))
 said_once (Refused why at) (Refused other there) e =
-    let same : reason_of why ≡ reason_of other = number-once (reason_of why) (reason_of other) (ap (λ (r : Answer). r.number) e) in
+    let same : reason_of why ≡ reason_of other = number_once (reason_of why) (reason_of other) (ap (λ (r : Answer). r.number) e) in
     ap₂ Refused (sym (reason_back why) ∙ ap refusal_for same ∙ reason_back other) (ap (λ (r : Answer). r.offset) e)
 
 -- By the meaning alone there is one answer for any bytes.

@@ -1,14 +1,10 @@
 -- A turn comes out as its tests do: a test that holds refuses, and else the next one is looked at. Assumes nothing.
-use mathlib.Core.Path.{◌≡◌, refl, sym, ap, ◌∙◌}
-use mathlib.Core.Logic.{inl, inr}
-use mathlib.Core.Bool.{Bool, true, false, not}
-use mathlib.Core.List.{List, [], ◌∷◌}
+use mathlib.Core.Path.{◌≡◌, sym, ap, ◌∙◌}
+use mathlib.Core.Bool.{Bool, true, false}
+use mathlib.Core.List.{List}
 use Prim.Native.Nat.{ℕ, ◌+◌, ◌-◌, ◌≤◌, ◌<◌}
-use native.Mathlib.Omega.{arith}
 use lib.ListN.{get_or}
-use types.Run.{OneOf}
-use denote.Enum.Declared.{tag_of}
-use borrow.Author.Tests.{lt-ltb, le-ltb, not-true, not-false}
+use borrow.Author.Tests.{lt-ltb, le-ltb}
 use Rattle.meaning.specs.Matching.{bytes_after}
 use Rattle.format.specs.Prefixes.{most_shared}
 use Rattle.format.specs.Limits.{most_prefixes}
@@ -16,30 +12,11 @@ use Rattle.records.specs.declared.refusals.Refusal.TheVariants.{Kind, Full}
 use Rattle.records.specs.declared.records.Found.{Found}
 use Rattle.records.specs.Prefixes.{keywords_before}
 use Rattle.book.specs.declared.progress.Stage.{Stage}
-use Rattle.book.specs.declared.progress.Stage.TheVariants.{Start, Headed, Named, Gapped, Worded, Ended}
+use Rattle.book.specs.declared.progress.Stage.TheVariants.{Worded}
 use Rattle.book.specs.declared.progress.Tally.{Tally}
 use Rattle.book.specs.declared.progress.Turn.{Turn}
 use Rattle.book.specs.declared.progress.Turn.TheVariants.{Next, Refused}
-use Rattle.book.specs.Judging.{may_stop_at, prefixes_with, keyword_turn, allowed_of, found_turn, turn_at}
-use Rattle.book.specs.contracts.progress.Stage.{the_type}
-
--- ── The end ──
-
--- The stages are counted from 0, in their order: the last is 5.
-other : OneOf (0 ∷ 1 ∷ 2 ∷ 3 ∷ 4 ∷ []) 5 → ⊥
-other (inl e) = omega arith
-other (inr (inl e)) = omega arith
-other (inr (inr (inl e))) = omega arith
-other (inr (inr (inr (inl e)))) = omega arith
-other (inr (inr (inr (inr e)))) = omega arith
-
-pub not_ended : (stage : Stage) → OneOf (0 ∷ 1 ∷ 2 ∷ 3 ∷ 4 ∷ []) (tag_of the_type stage) → false ≡ may_stop_at stage
-not_ended Start is = refl
-not_ended Headed is = refl
-not_ended Named is = refl
-not_ended Gapped is = refl
-not_ended Worded is = refl
-not_ended Ended is = absurd (other is)
+use Rattle.book.specs.Judging.{prefixes_with, keyword_turn, allowed_of, found_turn, turn_at}
 
 -- ── A keyword ──
 
@@ -61,11 +38,11 @@ module _ (bytes : List ℕ) (tally : Tally) (start count at : ℕ) {shared : ℕ
 -- ── Any record ──
 
 module _ (bytes : List ℕ) (at : ℕ) (stage : Stage) (tally : Tally) where
-  pub turn_kind : (found : Found) {allows : Bool} → allows ≡ allowed_of stage (get_or bytes at 0) → not allows ≡ true → Refused Kind ≡ turn_at bytes at stage tally found
+  pub turn_kind : (found : Found) {allows : Bool} → allows ≡ allowed_of stage (get_or bytes at 0) → allows ≡ false → Refused Kind ≡ turn_at bytes at stage tally found
   unfolding turn_at
-  turn_kind found {allows} is h = rw (sym is ∙ not-true allows h)
+  turn_kind found {allows} is h = rw (sym is ∙ h)
 
-  pub turn_found : {allows : Bool} → allows ≡ allowed_of stage (get_or bytes at 0) → not allows ≡ false → {found told : Found} → found ≡ told → {r : Turn}
+  pub turn_found : {allows : Bool} → allows ≡ allowed_of stage (get_or bytes at 0) → allows ≡ true → {found told : Found} → found ≡ told → {r : Turn}
       → r ≡ found_turn bytes at tally told → r ≡ turn_at bytes at stage tally found
   unfolding turn_at
-  turn_found {allows} is h tells e = rw (sym is ∙ not-false allows h, tells) e
+  turn_found {allows} is h tells e = rw (sym is ∙ h, tells) e

@@ -38,7 +38,7 @@ use Rattle.book.specs.declared.progress.Turn.{Turn}
 use Rattle.book.specs.declared.progress.Turn.TheVariants.{Next, Refused}
 use Rattle.book.specs.Judging.{Small, turn_at, stop_answer}
 use Rattle.book.specs.Tallies.{name_of, tally_of, turn_for}
-use Rattle.book.specs.Answers.{saidBy, JudgedRight}
+use Rattle.book.specs.Answers.{said_by, JudgedRight}
 use Rattle.book.proofs.Tallied.{start_tally, tally_small}
 use Rattle.book.proofs.Turned.{next, body, long, passed, further, turn_agrees}
 
@@ -77,13 +77,13 @@ reading_small r = rw r.keeps (tally_small r.stage r.within)
 -- What comes of a turn: reading goes on further ahead, or the answer is the document's.
 abbrev pub Comes : List ℕ → ℕ → Turn → Type 0
 Comes bytes at (Next name tally) = (at < past_of (read_at bytes at) at) × Reading bytes (past_of (read_at bytes at) at) name tally
-Comes bytes at (Refused why) = saidBy (answer.Refused why at) ≡ answer_of (judged bytes)
+Comes bytes at (Refused why) = said_by (answer.Refused why at) ≡ answer_of (judged bytes)
 
 -- ── What comes of a turn ──
 
 -- At the book's end the answer is given there and then.
-stop_answers : (stage : Stage) (at : ℕ) → saidBy (stop_answer (name_of stage) (tally_of stage) at) ≡ answer_of (judged_from zero stage at [])
-unfolding stop_answer tally_of name_of phrases_at saidBy answer_of judged_from
+stop_answers : (stage : Stage) (at : ℕ) → said_by (stop_answer (name_of stage) (tally_of stage) at) ≡ answer_of (judged_from zero stage at [])
+unfolding stop_answer tally_of name_of phrases_at said_by answer_of judged_from
 stop_answers start at = refl
 stop_answers headed at = refl
 stop_answers (named phrases phrase) at = refl
@@ -104,7 +104,7 @@ goes_on_lem fuel stage at k behind e =
     ap (λ (o : Option format.Refusal). answered o at (judged_from fuel (onward stage k (take (body_length k) behind)) (at + (1 + body_length k)) (drop (body_length k) behind))) e
 
 -- What says what the document does is right.
-judged_right : (bytes : List ℕ) → Bytes bytes → {answer : Judged} → saidBy answer ≡ answer_of (judged bytes) → JudgedRight bytes answer
+judged_right : (bytes : List ℕ) → Bytes bytes → {answer : Judged} → said_by answer ≡ answer_of (judged bytes) → JudgedRight bytes answer
 judged_right bytes in_bytes e = record { exact = e; meant = record { judgement = judged bytes; true_of = judged_judges bytes in_bytes; said = e } }
 
 module _ (bytes : List ℕ) (in_bytes : Bytes bytes) (at : ℕ) {name : code.Stage} {tally : Tally} (r : Reading bytes at name tally) where
@@ -121,7 +121,7 @@ module _ (bytes : List ℕ) (in_bytes : Bytes bytes) (at : ℕ) {name : code.Sta
     split = rw (add-one at) (drop-cons bytes at 0 inside)
 
     refuses_right : (why : format.Refusal) → first_fault r.stage (drop at bytes) ≡ some why → Comes bytes at (Refused (refusal_for why))
-    unfolding saidBy answer_of
+    unfolding said_by answer_of
     refuses_right why e =
         ap (λ (w : format.Refusal). record { number = refusal_number w; offset = at; phrases = 0 }) (refusal_said why)
         ∙ ap answer_of (sym (fault_refuses r.fuel r.stage at (drop at bytes) why e) ∙ r.rest)

@@ -1,28 +1,25 @@
 -- A test of two tests stops at the first that fails, and what is not at most a limit is above it. Assumes nothing.
 use mathlib.Core.Path.{◌≡◌, refl, sym, ap, ◌∙◌}
 use mathlib.Core.Logic.{◌⊎◌, inl, inr, ⊎_elim}
-use mathlib.Core.Bool.{Bool, true, false, not, cond, ◌&&◌, false≢true}
+use mathlib.Core.Bool.{Bool, true, false, not, cond, ◌&&◌, and-false}
 use Prim.Native.Nat.{ℕ, ◌≤◌, ◌<◌}
+use native.Mathlib.Omega.{arith}
 use lib.Dec.{leb, ltb}
+use Rattle.format.specs.Limits.{most_number, most_rights}
+use Rattle.format.specs.Faults.{between}
 use borrow.Author.Tests.{le-leb, lt-leb, le-ltb, lt-ltb}
 use Rattle.lent.proofs.Cases.{lt_or_le}
 
--- Two tests, the second of which is looked at where the first holds, and a third behind them; a fourth holds in any case.
-module _ (c : Bool) {d v : Bool} (fourth : d ≡ true) where
-  pub three_hold : (a b : Bool) → v ≡ a && b → v ≡ true → c ≡ (a && d) && (b && c)
-  three_hold true true e h = rw fourth
-  three_hold true false e h = absurd (false≢true (sym e ∙ h))
-  three_hold false b e h = absurd (false≢true (sym e ∙ h))
+-- A number of two bytes and a rights code: each at least 1, the number is in range, and the code decides; else they are not.
+module _ (number rights : ℕ) where
+  pub in_range_holds : number < 65536 → 1 ≤ number → 1 ≤ rights → leb rights most_rights ≡ between 1 most_number number && between 1 most_rights rights
+  unfolding between
+  in_range_holds two some code = simp (le-leb 1 number some, le-leb number most_number (omega arith), le-leb 1 rights code)
 
-  pub three_fail : (a b : Bool) → v ≡ a && b → v ≡ false → v ≡ (a && d) && (b && c)
-  three_fail true true e h = absurd (false≢true (sym h ∙ e))
-  three_fail true false e h = rw fourth h
-  three_fail false b e h = h
-
--- Two bounds from below, one after the other.
-pub both_above : (low m n : ℕ) {v : Bool} → ((low ≤ m) × (v ≡ leb low n)) ⊎ ((m < low) × (v ≡ leb low m)) → v ≡ leb low m && leb low n
-both_above low m n (inl h) = rw (le-leb low m h.0) h.1
-both_above low m n (inr h) = rw (lt-leb low m h.0) (h.1 ∙ lt-leb low m h.0)
+  pub in_range_fails : ((1 ≤ number) × (rights < 1)) ⊎ (number < 1) → false ≡ between 1 most_number number && between 1 most_rights rights
+  unfolding between
+  in_range_fails (inl h) = simp (lt-leb 1 rights h.1) (sym (and-false (between 1 most_number number)))
+  in_range_fails (inr h) = simp (lt-leb 1 number h)
 
 -- Where both are to hold, one after the other is looked at.
 pub one_by_one : {A : Type 0} (a b : Bool) (x y : A) → cond (not (a && b)) x y ≡ cond (not a) x (cond (not b) x y)

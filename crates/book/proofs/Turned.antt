@@ -1,7 +1,7 @@
 -- One turn is that of the first fault of what stands at the offset, and a record that stands leads on to the next one, with its
 -- keyword behind those before it. Assumes nothing.
 use mathlib.Core.Path.{◌≡◌, refl, sym, ap, ◌∙◌}
-use mathlib.Core.Logic.{◌⊎◌, ⊎_elim}
+use mathlib.Core.Logic.{⊎_elim}
 use mathlib.Core.Bool.{Bool, true, false, So, ◌||◌, false≢true}
 use mathlib.Core.List.{List, ◌∷◌}
 use mathlib.Core.Option.{Option, none}

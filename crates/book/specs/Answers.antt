@@ -8,18 +8,18 @@ use Rattle.book.specs.declared.answers.Judged.TheVariants.{Accepted, Refused}
 
 -- Document 01's number, offset and phrases of each case: 0 and the book's length for a book that is accepted, and else the
 -- number of the refusal and the offset of the record, with no phrases.
-unfoldable pub saidBy : Judged → Answer
+unfoldable pub said_by : Judged → Answer
 unfolding refusal_number reason_of
-saidBy (Accepted length phrases) = record { number = 0; offset = length; phrases = phrases }
-saidBy (Refused why at) = record { number = refusal_number (reason_of why); offset = at; phrases = 0 }
+said_by (Accepted length phrases) = record { number = 0; offset = length; phrases = phrases }
+said_by (Refused why at) = record { number = refusal_number (reason_of why); offset = at; phrases = 0 }
 
 -- The answer is that of a judgement which is true of the bytes.
 pub record Meant (bytes : List ℕ) (answer : Judged) : Type 0 where
   pub judgement : Judgement
   pub true_of : Judges bytes judgement
-  pub said : saidBy answer ≡ answer_of judgement
+  pub said : said_by answer ≡ answer_of judgement
 
 -- What judge answers for any bytes, and what that means.
 pub record JudgedRight (bytes : List ℕ) (answer : Judged) : Type 0 where
-  pub exact : saidBy answer ≡ answer_of (judged bytes)
+  pub exact : said_by answer ≡ answer_of (judged bytes)
   pub meant : Meant bytes answer

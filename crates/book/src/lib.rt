@@ -1,4 +1,6 @@
 // The phrase book: judge, which says whether the lent bytes are a book within the limits or why and where they are refused.
+#![tactic(auto)]
+
 pub mod answers;
 mod gaps;
 pub mod judging;

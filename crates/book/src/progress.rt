@@ -7,7 +7,7 @@ use records::Refusal;
 use records::kinds::{END_KIND, HEADER_KIND, PHRASE_KIND, is_gap, is_keyword};
 
 // What was read last.
-#[derive(Drop)]
+#[derive(Clone, Copy)]
 pub enum Stage {
     // nothing
     Start,
@@ -24,7 +24,7 @@ pub enum Stage {
 }
 
 // What is counted of the records read so far, and one number.
-#[derive(Drop)]
+#[derive(Clone, Copy)]
 pub struct Tally {
     // The phrases, the last one perhaps not whole, and the number of that one, `NONE` where there is none.
     pub phrases: usize,
@@ -37,7 +37,7 @@ pub struct Tally {
 }
 
 // What comes of a record: it stands, and leads to this stage and tally, or it is refused.
-#[derive(Drop)]
+#[derive(Clone, Copy)]
 pub enum Turn {
     Next { stage: Stage, tally: Tally },
     Refused { why: Refusal },

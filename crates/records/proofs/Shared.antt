@@ -1,15 +1,12 @@
 -- Reading the records again meets their keywords one after the other, and the most that is shared with them is the larger of
 -- what was shared so far and what the rest shares. Assumes nothing.
 use mathlib.Core.Path.{◌≡◌, refl, ap, ◌∙◌}
-use mathlib.Core.Logic.{inl, inr}
 use mathlib.Core.Bool.{Bool, true, false, not, cond}
 use mathlib.Core.List.{List, [], ◌∷◌, ◌++◌}
 use Prim.Native.Nat.{ℕ, zero, suc, ◌+◌, ◌≤◌, ◌<◌, max}
 use native.Mathlib.Omega.{arith}
 use lib.Dec.{leb, ltb, eqb}
 use lib.ListN.{length, drop, get_or, length-take, length-drop}
-use types.Run.{OneOf}
-use denote.Enum.Declared.{tag_of}
 use borrow.Author.Tests.{leb-false, ltb-false, lt-ltb, le-ltb}
 use Rattle.meaning.specs.Matching.{bytes_after}
 use Rattle.format.specs.Prefixes.{common_prefix, most_shared}
@@ -17,7 +14,6 @@ use Rattle.format.specs.Refusals.{cut, kind}
 use Rattle.format.specs.Written.{header_kind, phrase_kind, bounded_kind, open_kind, end_kind}
 use Rattle.format.specs.Faults.{body_length}
 use Rattle.format.proofs.Shared.{shared_short}
-use Rattle.records.specs.contracts.records.Found.{the_type}
 use Rattle.records.specs.declared.records.Found.{Found}
 use Rattle.records.specs.declared.records.Found.TheVariants.{Header, Phrase, Bounded, Open, Keyword, End, Refused}
 use Rattle.records.specs.declared.records.Cursor.{Cursor}
@@ -97,23 +93,15 @@ pub keyword_shared : (bytes w : List ℕ) {found : Found} {start count : ℕ} {n
 unfolding most_shared keyword_in
 keyword_shared bytes w is e = rw is (omega (arith, e))
 
--- The variants are counted from 0, in their order: the keyword is 4.
-other : OneOf (0 ∷ 1 ∷ 2 ∷ 3 ∷ 5 ∷ 6 ∷ []) 4 → ⊥
-other (inl e) = omega arith
-other (inr (inl e)) = omega arith
-other (inr (inr (inl e))) = omega arith
-other (inr (inr (inr (inl e)))) = omega arith
-other (inr (inr (inr (inr (inl e))))) = omega arith
-other (inr (inr (inr (inr (inr e))))) = omega arith
-
 -- What is no keyword shares nothing.
-pub nothing_shared : (bytes w : List ℕ) (found : Found) → OneOf (0 ∷ 1 ∷ 2 ∷ 3 ∷ 5 ∷ 6 ∷ []) (tag_of the_type found) → 0 ≡ most_shared (keyword_in bytes found) w
+pub nothing_shared : (bytes w : List ℕ) (found : Found) → ((start count : ℕ) (next : Cursor) → found ≡ Keyword start count next → ⊥)
+    → 0 ≡ most_shared (keyword_in bytes found) w
 unfolding most_shared keyword_in
 nothing_shared bytes w (Header edition next) is = refl
 nothing_shared bytes w (Phrase number rights next) is = refl
 nothing_shared bytes w (Bounded least most next) is = refl
 nothing_shared bytes w (Open least next) is = refl
-nothing_shared bytes w (Keyword start count next) is = absurd (other is)
+nothing_shared bytes w (Keyword start count next) is = absurd (is start count next refl)
 nothing_shared bytes w (End count next) is = refl
 nothing_shared bytes w (Refused why at) is = refl
 

@@ -1,5 +1,7 @@
 // The records of a phrase book: a reader that goes from record to record in the lent bytes, what each record says, and how much a
 // keyword shares with those before it.
+#![tactic(auto)]
+
 pub mod kinds;
 mod prefixes;
 mod reader;

@@ -5,7 +5,7 @@ ghost use Rattle.records.specs.Readers.{past_of, moved_past};
 
 use crate::records::{Cursor, Found, record_at};
 
-#[derive(Drop)]
+#[derive(Clone, Copy)]
 pub struct Reader<'a> {
     pub book: &'a [u8],
     pub at: usize,
@@ -47,7 +47,7 @@ pub fn next<'s, 'a>(reader: &'s mut Reader<'a>) -> Found
     found
 }
 
-// What a reader of these bytes finds at an offset: whoever calls this needs no walk by hand.
+// What a reader of these bytes finds at an offset.
 pub fn read_at(book: &[u8], at: usize) -> Found
     ensures { ReadRight book.now at result }
 {

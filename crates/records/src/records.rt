@@ -10,13 +10,13 @@ use crate::refusals::Refusal;
 use counters::Number;
 
 // The offset at which a record begins.
-#[derive(Drop)]
+#[derive(Clone, Copy)]
 pub struct Cursor {
     pub at: usize,
 }
 
 // What reading at a cursor finds: a whole record and the cursor behind it, or why there is none.
-#[derive(Drop)]
+#[derive(Clone, Copy)]
 pub enum Found {
     Header {
         edition: u8,
