@@ -11,31 +11,31 @@ use Rattle.lent.specs.Numbers.{Bytes}
 use Rattle.lent.proofs.Cases.{lt_or_le}
 use Rattle.format.specs.Judged.{Judgement, accepted, refused}
 use Rattle.format.proofs.Theorem.{judges_once}
-use Rattle.format.proofs.Answers.{number-range, number-once}
+use Rattle.format.proofs.Answers.{number_range, number_once}
 use Rattle.records.specs.Refusals.{reason_of, refusal_for}
 use Rattle.records.proofs.Names.{reason_back}
 use Rattle.tables.specs.Layout.{tables_size, tables_layout}
 use Rattle.tables.proofs.Once.{laid_once, tables_tiled}
 use Rattle.builder.specs.declared.answers.Built.{Built}
 use Rattle.builder.specs.declared.answers.Built.TheVariants.{Done, TooSmall, Refused}
-use Rattle.builder.specs.Answers.{Said, saidBy, said_of}
+use Rattle.builder.specs.Answers.{Said, said_by, said_of}
 use Rattle.builder.specs.Build.{Outcome, outcome, Holds, Judged, BuildMeant, BuiltRight}
 
 -- ── Answers ──
 
 -- No two answers of build say the same number and offset.
-pub said_once : (a b : Built) → saidBy a ≡ saidBy b → a ≡ b
-unfolding saidBy
+pub said_once : (a b : Built) → said_by a ≡ said_by b → a ≡ b
+unfolding said_by
 said_once (Done n) (Done m) e = ap Done (ap (λ (s : Said). s.offset) e)
 said_once (Done n) TooSmall e = absurd (omega (arith, ap (λ (s : Said). s.number) e))
-said_once (Done n) (Refused why at) e = absurd (omega (arith, ap (λ (s : Said). s.number) e, number-range (reason_of why)))
+said_once (Done n) (Refused why at) e = absurd (omega (arith, ap (λ (s : Said). s.number) e, number_range (reason_of why)))
 said_once TooSmall (Done m) e = absurd (omega (arith, ap (λ (s : Said). s.number) e))
 said_once TooSmall TooSmall e = refl
-said_once TooSmall (Refused why at) e = absurd (omega (arith, ap (λ (s : Said). s.number) e, number-range (reason_of why)))
-said_once (Refused why at) (Done m) e = absurd (omega (arith, ap (λ (s : Said). s.number) e, number-range (reason_of why)))
-said_once (Refused why at) TooSmall e = absurd (omega (arith, ap (λ (s : Said). s.number) e, number-range (reason_of why)))
+said_once TooSmall (Refused why at) e = absurd (omega (arith, ap (λ (s : Said). s.number) e, number_range (reason_of why)))
+said_once (Refused why at) (Done m) e = absurd (omega (arith, ap (λ (s : Said). s.number) e, number_range (reason_of why)))
+said_once (Refused why at) TooSmall e = absurd (omega (arith, ap (λ (s : Said). s.number) e, number_range (reason_of why)))
 said_once (Refused why at) (Refused other there) e =
-    let same : reason_of why ≡ reason_of other = number-once (reason_of why) (reason_of other) (ap (λ (s : Said). s.number) e) in
+    let same : reason_of why ≡ reason_of other = number_once (reason_of why) (reason_of other) (ap (λ (s : Said). s.number) e) in
     ap₂ Refused (sym (reason_back why) ∙ ap refusal_for same ∙ reason_back other) (ap (λ (s : Said). s.offset) e)
 
 -- ── Memory ──

@@ -19,7 +19,7 @@ use Rattle.records.proofs.Names.{refusal_said}
 use Rattle.tables.specs.Layout.{tables_size}
 use Rattle.builder.specs.declared.answers.Built.{Built}
 use Rattle.builder.specs.declared.answers.Built.TheVariants.{TooSmall}
-use Rattle.builder.specs.Answers.{said, saidBy, said_of}
+use Rattle.builder.specs.Answers.{said, said_by, said_of}
 use Rattle.builder.specs.Passes.{Fresh}
 use Rattle.builder.specs.Build.{Outcome, outcome, blank_of, outcome_of, build_of, Holds, Judged, BuildMeant, BuiltRight}
 use Rattle.builder.proofs.Filled.{tables_long, tables_past, tables_laid}
@@ -53,7 +53,7 @@ module _ (bytes before : List ℕ) (each : Bytes bytes) (large : tables_size ≤
 
   -- Whatever is judged of the book, what it leads to is right.
   outcome_judged : (j : Judgement) → Judges bytes j → Judged bytes before (outcome_of bytes blank j).answer (outcome_of bytes blank j).tables
-  unfolding Judges outcome_of saidBy said_of Holds
+  unfolding Judges outcome_of said_by said_of Holds
   outcome_judged (accepted b offset) true_of =
       let fresh : Fresh b bytes blank = blank_fresh b true_of.0 in
       record {
@@ -86,7 +86,7 @@ module _ (bytes before : List ℕ) where
 
   module _ (each : Bytes bytes) where
     pub build_meant : BuildMeant bytes before (build_of bytes before).answer (build_of bytes before).tables
-    unfolding saidBy
+    unfolding said_by
     build_meant = record {
       small = λ l. rw (build_small l) (record { says = refl; same = refl });
       large = λ l. rw (build_large l) (outcome_judged bytes before each l (judged bytes) (judged_judges bytes (all_bytes bytes each)));

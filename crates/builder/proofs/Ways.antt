@@ -8,11 +8,11 @@ use lib.ListN.{length}
 use Rattle.lent.specs.Numbers.{Bytes}
 use Rattle.meaning.specs.Books.{Book}
 use Rattle.format.specs.Judged.{Judgement, accepted, refused, Answer, answer_of, judged}
-use Rattle.format.proofs.Answers.{number-range, number-once}
+use Rattle.format.proofs.Answers.{number_range, number_once}
 use Rattle.records.specs.declared.refusals.Refusal.{Refusal}
 use Rattle.book.specs.declared.answers.Judged.TheVariants.{Accepted, Refused}
 use Rattle.records.specs.Refusals.{reason_of}
-use Rattle.book.specs.Answers.{saidBy, JudgedRight}
+use Rattle.book.specs.Answers.{said_by, JudgedRight}
 use Rattle.records.proofs.Names.{reason_back}
 use Rattle.book.proofs.Answered.{accepted_means}
 use Rattle.tables.specs.Layout.{tables_size}
@@ -23,16 +23,16 @@ use Rattle.builder.proofs.Right.{blank_fresh, build_large}
 
 -- ── Judge's answer tells the judgement ──
 
-accepted_judgement : (long phrases : ℕ) (j : Judgement) → saidBy (Accepted long phrases) ≡ answer_of j → (b : Book) × (j ≡ accepted b long)
-unfolding saidBy answer_of
+accepted_judgement : (long phrases : ℕ) (j : Judgement) → said_by (Accepted long phrases) ≡ answer_of j → (b : Book) × (j ≡ accepted b long)
+unfolding said_by answer_of
 accepted_judgement long phrases (accepted b offset) e = (b, ap (accepted b) (sym (ap (λ (a : Answer). a.offset) e)))
-accepted_judgement long phrases (refused why offset) e = absurd (omega (arith, ap (λ (a : Answer). a.number) e, number-range why))
+accepted_judgement long phrases (refused why offset) e = absurd (omega (arith, ap (λ (a : Answer). a.number) e, number_range why))
 
-refused_judgement : (why : Refusal) (at : ℕ) (j : Judgement) → saidBy (Refused why at) ≡ answer_of j → j ≡ refused (reason_of why) at
-unfolding saidBy answer_of
-refused_judgement why at (accepted b offset) e = absurd (omega (arith, ap (λ (a : Answer). a.number) e, number-range (reason_of why)))
+refused_judgement : (why : Refusal) (at : ℕ) (j : Judgement) → said_by (Refused why at) ≡ answer_of j → j ≡ refused (reason_of why) at
+unfolding said_by answer_of
+refused_judgement why at (accepted b offset) e = absurd (omega (arith, ap (λ (a : Answer). a.number) e, number_range (reason_of why)))
 refused_judgement why at (refused other offset) e =
-    ap₂ refused (sym (number-once (reason_of why) other (ap (λ (a : Answer). a.number) e))) (sym (ap (λ (a : Answer). a.offset) e))
+    ap₂ refused (sym (number_once (reason_of why) other (ap (λ (a : Answer). a.number) e))) (sym (ap (λ (a : Answer). a.offset) e))
 
 -- ── The ways of memory that is large enough ──
 

@@ -16,11 +16,11 @@ said number offset = record { number = number; offset = offset }
 
 -- The number and the offset of each case: 0 and the book's length where it is done, 1 and 0 where the memory is too small, and
 -- else the number of the refusal and the offset of the record.
-unfoldable pub saidBy : Built → Said
+unfoldable pub said_by : Built → Said
 unfolding refusal_number reason_of
-saidBy (Done length) = said 0 length
-saidBy TooSmall = said 1 0
-saidBy (Refused why at) = said (refusal_number (reason_of why)) at
+said_by (Done length) = said 0 length
+said_by TooSmall = said 1 0
+said_by (Refused why at) = said (refusal_number (reason_of why)) at
 
 -- Those of a judgement.
 unfoldable pub said_of : Judgement → Said

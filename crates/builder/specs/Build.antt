@@ -8,7 +8,7 @@ use Rattle.tables.specs.Regions.{Laid}
 use Rattle.tables.specs.Layout.{tables_size, tables_layout}
 use Rattle.builder.specs.declared.answers.Built.{Built}
 use Rattle.builder.specs.declared.answers.Built.TheVariants.{Done, TooSmall, Refused}
-use Rattle.builder.specs.Answers.{said, saidBy, said_of}
+use Rattle.builder.specs.Answers.{said, said_by, said_of}
 use Rattle.builder.specs.Passes.{tables_from}
 
 -- ── As the code does it ──
@@ -43,7 +43,7 @@ Holds (refused why offset) after = Zero 0 tables_size after
 
 -- Memory below the published size is refused with 1, at 0, and not touched.
 pub record Untouched (before : List ℕ) (answer : Built) (after : List ℕ) : Type 0 where
-  pub says : saidBy answer ≡ said 1 0
+  pub says : said_by answer ≡ said 1 0
   pub same : after ≡ before
 
 -- In memory of the published size the answer is that of a judgement which is true of the book, the memory holds what it leads
@@ -51,7 +51,7 @@ pub record Untouched (before : List ℕ) (answer : Built) (after : List ℕ) : T
 pub record Judged (bytes before : List ℕ) (answer : Built) (after : List ℕ) : Type 0 where
   pub judgement : Judgement
   pub true_of : Judges bytes judgement
-  pub says : saidBy answer ≡ said_of judgement
+  pub says : said_by answer ≡ said_of judgement
   pub holds : Holds judgement after
   pub past : (k : ℕ) → tables_size ≤ k → get_or after k 0 ≡ get_or before k 0
   pub long : length after ≡ length before

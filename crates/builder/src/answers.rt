@@ -1,10 +1,10 @@
 // What build answers. Document 01's number and offset of each case stand in the specification.
 ghost use Rattle.std.specs.Prelude.{◌≡◌};
-ghost use Rattle.builder.specs.Answers.{saidBy};
+ghost use Rattle.builder.specs.Answers.{said_by};
 
 use records::Refusal;
 
-#[derive(Drop)]
+#[derive(Clone, Copy)]
 pub enum Built {
     // the book, of so many bytes, is accepted: the lent memory holds its tables
     Done { length: usize },
@@ -17,7 +17,7 @@ pub enum Built {
 impl Built {
     // Document 01's number of the answer.
     pub fn number(self) -> u8
-        ensures { result ≡ (saidBy self).number }
+        ensures { result ≡ (said_by self).number }
     {
         match self {
             Built::Done { length: _ } => 0,
@@ -28,7 +28,7 @@ impl Built {
 
     // The offset that document 01 has beside it.
     pub fn offset(self) -> usize
-        ensures { result ≡ (saidBy self).offset }
+        ensures { result ≡ (said_by self).offset }
     {
         match self {
             Built::Done { length } => length,

@@ -1,4 +1,6 @@
 // Build: from the bytes of a phrase book to its tables, in memory that the caller lends.
+#![tactic(auto)]
+
 ghost use Rattle.builder.specs.Build.{BuiltRight};
 
 use book::{Judged, judge};

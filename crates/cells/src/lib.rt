@@ -1,4 +1,6 @@
 // Fills in the rows, column by column: the cell of a state in the column of a byte has the number of the next state.
+#![tactic(auto)]
+
 ghost use Rattle.std.specs.Prelude.{◌≡◌, ◌+◌, ◌*◌, ◌≤◌, ◌<◌};
 ghost use Rattle.tables.specs.Layout.{room_for_states};
 ghost use Rattle.tables.specs.Reads.{Whole};

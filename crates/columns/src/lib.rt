@@ -1,4 +1,6 @@
 // Fills in which column each byte has: the bytes that occur in keywords have one each, in their order, and all others share the first.
+#![tactic(auto)]
+
 ghost use Rattle.std.specs.Prelude.{◌≡◌, ◌+◌, ◌≤◌, ◌<◌};
 ghost use Rattle.tables.specs.Layout.{room_for_states};
 ghost use Rattle.tables.specs.Reads.{Whole};

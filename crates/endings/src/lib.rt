@@ -1,4 +1,6 @@
 // Fills out, info and the links of the tables: which pieces end in a state, and in which order the scan looks at them.
+#![tactic(auto)]
+
 ghost use Rattle.std.specs.Prelude.{◌≡◌, ℕ, ◌+◌, ◌*◌, ◌≤◌, ◌<◌, get_or};
 ghost use Rattle.tables.specs.Layout.{room_for_states, room_for_pieces};
 ghost use Rattle.tables.specs.Reads.{Whole};

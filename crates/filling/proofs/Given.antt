@@ -1,7 +1,7 @@
 -- The keywords that are given are a book's, so a state and a byte are a state of the book exactly when a keyword goes on by the byte.
 -- Assumes nothing.
 use mathlib.Core.Path.{◌≡◌, refl, ap, ◌∙◌}
-use mathlib.Core.Logic.{◌⊎◌, inr, ⊎_elim}
+use mathlib.Core.Logic.{inr, ⊎_elim}
 use mathlib.Core.Bool.{So}
 use mathlib.Core.List.{List, [], ◌∷◌, ◌++◌, map, append-nil, Memᴰ}
 use Prim.Native.Nat.{ℕ, zero, suc, ◌+◌, ◌≤◌, ◌<◌}

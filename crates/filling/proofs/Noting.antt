@@ -55,11 +55,11 @@ module _ (text : List ℕ) (state keyword : Stretch) where
   unfolding goes_on
   goes_on_short h = rw (le-ltb state.count keyword.count h)
 
-  pub goes-on-same
+  pub goes_on_same
       : state.count < keyword.count
       → goes_on text state keyword ≡ same (bytes_after state.offset state.count text) (bytes_after keyword.offset state.count text)
   unfolding goes_on
-  goes-on-same h = rw (lt-ltb state.count keyword.count h)
+  goes_on_same h = rw (lt-ltb state.count keyword.count h)
 
   pub goes_on_longer : goes_on text state keyword ≡ true → state.count < keyword.count
   unfolding goes_on
@@ -77,9 +77,9 @@ module _ (text : List ℕ) (state keyword : Stretch) where
   unfolding with_keyword
   noted onward e = rw e
 
-pub onward-further
+pub onward_further
     : (text offsets lengths : List ℕ) (state : Stretch) (q : ℕ) (onward now : List ℕ) (keyword : Stretch)
     → onward ≡ onward_from text offsets lengths state q → keyword.offset ≡ get_or offsets q 0 → keyword.count ≡ get_or lengths q 0
     → now ≡ with_keyword text state keyword onward → now ≡ onward_from text offsets lengths state (q + 1)
 unfolding onward_from
-onward-further text offsets lengths state q onward now keyword e x y h = rw (add-one, ← e, ← x, ← y) h
+onward_further text offsets lengths state q onward now keyword e x y h = rw (add-one, ← e, ← x, ← y) h

@@ -1,4 +1,6 @@
 // Fills labels and first children of the table memory: the states of some keywords get their numbers.
+#![tactic(auto)]
+
 mod onward;
 mod turns;
 

@@ -11,7 +11,7 @@ pub const BYTES: usize = tables::layout::BYTE_VALUES;
 pub const KEYWORDS: usize = tables::layout::ROOM_FOR_PIECES;
 
 // A stretch of the book: so many bytes from an offset on. A keyword is one, and so are the bytes of a state.
-#[derive(Drop)]
+#[derive(Clone, Copy)]
 pub struct Stretch {
     pub offset: usize,
     pub count: usize,

@@ -1,4 +1,6 @@
 // Fills the failures of the table memory, and finds the states of the keywords in it.
+#![tactic(auto)]
+
 mod failures;
 mod keywords;
 

@@ -1,4 +1,6 @@
 // The step of a byte, from table memory: to the child by it, or along the failures to the nearest state that has one.
+#![tactic(auto)]
+
 ghost use Rattle.std.specs.Prelude.{◌≡◌, ◌+◌, ◌-◌, ◌≤◌, ◌<◌};
 ghost use Rattle.tables.specs.Layout.{room_for_states};
 ghost use Rattle.tables.specs.Reads.{Whole};
@@ -7,7 +9,7 @@ ghost use Rattle.stepping.specs.Steps.{children_end_in, labelled_in, child_by_in
 use counters::State;
 
 // Where the step of a byte leads, and how many failures it takes.
-#[derive(Drop)]
+#[derive(Clone, Copy)]
 pub struct Stepped {
     pub state: State,
     pub steps: u64,

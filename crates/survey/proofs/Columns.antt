@@ -1,8 +1,8 @@
 -- A column of a table is read as a list: one entry more is one element more at its end. Assumes nothing.
 use mathlib.Core.Path.{◌≡◌, refl, sym, ◌∙◌}
-use mathlib.Core.Logic.{◌⊎◌, ⊎_elim}
+use mathlib.Core.Logic.{⊎_elim}
 use mathlib.Core.List.{List, [], ◌∷◌, ◌++◌, map, map-append}
-use Prim.Native.Nat.{ℕ, zero, suc, ◌+◌, ◌≤◌, ◌<◌}
+use Prim.Native.Nat.{ℕ, zero, suc, ◌≤◌, ◌<◌}
 use native.Mathlib.Omega.{arith}
 use lib.ListN.{length, get_or, length-map, length-append, get_or-append, get_or-eq_default}
 use lib.Seq.{get_or-append_seam}

@@ -1,20 +1,17 @@
 -- What is found at an offset of any bytes is a gap or not, and a keyword of a known kind is short. Assumes nothing.
 use mathlib.Core.Path.{◌≡◌, refl}
-use mathlib.Core.Logic.{inl, inr}
 use mathlib.Core.Bool.{Bool, true, false, So, not, cond}
-use mathlib.Core.List.{List, [], ◌∷◌}
-use Prim.Native.Nat.{ℕ, ◌+◌, ◌≤◌, ◌<◌}
+use mathlib.Core.List.{List}
+use Prim.Native.Nat.{ℕ, ◌+◌, ◌≤◌}
 use native.Mathlib.Omega.{arith}
 use lib.Dec.{leb, ltb, eqb}
 use lib.ListN.{length, drop, get_or}
-use types.Run.{OneOf}
-use denote.Enum.Declared.{tag_of}
 use Rattle.format.specs.Refusals.{cut, kind}
 use Rattle.format.specs.Limits.{longest_keyword}
 use Rattle.format.specs.Written.{header_kind, phrase_kind, bounded_kind, open_kind, end_kind}
 use Rattle.format.specs.Faults.{is_keyword, body_length}
 use Rattle.format.proofs.FirstFault.{keyword_range, keyword_length}
-use Rattle.records.specs.contracts.records.Found.{the_type}
+use Rattle.records.specs.declared.records.Cursor.{Cursor}
 use Rattle.records.specs.declared.records.Found.{Found}
 use Rattle.records.specs.declared.records.Found.TheVariants.{Header, Phrase, Bounded, Open, Keyword, End, Refused}
 use Rattle.records.specs.Records.{known, whole, nothing, body_at, found_for, found_as, read_at}
@@ -22,23 +19,19 @@ use Rattle.survey.specs.Turns.{is_gap}
 
 -- ── Gaps ──
 
--- The variants are counted from 0, in their order: the gaps are 2 and 3.
-others : (tag : ℕ) → 1 < tag → tag < 4 → OneOf (0 ∷ 1 ∷ 4 ∷ 5 ∷ 6 ∷ []) tag → ⊥
-others tag low high (inl e) = omega arith
-others tag low high (inr (inl e)) = omega arith
-others tag low high (inr (inr (inl e))) = omega arith
-others tag low high (inr (inr (inr (inl e)))) = omega arith
-others tag low high (inr (inr (inr (inr e)))) = omega arith
-
--- What is none of these is no gap.
-pub no_gap : (found : Found) → OneOf (0 ∷ 1 ∷ 4 ∷ 5 ∷ 6 ∷ []) (tag_of the_type found) → false ≡ is_gap found
-no_gap (Header edition next) other = refl
-no_gap (Phrase number rights next) other = refl
-no_gap (Bounded least most next) other = absurd (others 2 (omega arith) (omega arith) other)
-no_gap (Open least next) other = absurd (others 3 (omega arith) (omega arith) other)
-no_gap (Keyword start count next) other = refl
-no_gap (End count next) other = refl
-no_gap (Refused why at) other = refl
+-- What is neither bounded nor open is no gap.
+pub no_gap
+    : (found : Found)
+    → ((least most : ℕ) (next : Cursor) → found ≡ Bounded least most next → ⊥)
+    → ((least : ℕ) (next : Cursor) → found ≡ Open least next → ⊥)
+    → false ≡ is_gap found
+no_gap (Header edition next) not_bounded not_open = refl
+no_gap (Phrase number rights next) not_bounded not_open = refl
+no_gap (Bounded least most next) not_bounded not_open = absurd (not_bounded least most next refl)
+no_gap (Open least next) not_bounded not_open = absurd (not_open least next refl)
+no_gap (Keyword start count next) not_bounded not_open = refl
+no_gap (End count next) not_bounded not_open = refl
+no_gap (Refused why at) not_bounded not_open = refl
 
 -- ── Keywords ──
 

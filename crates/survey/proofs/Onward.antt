@@ -1,17 +1,14 @@
 -- A turn does what its record asks for, and goes on behind it, in table memory as long as before. Assumes nothing.
 use mathlib.Core.Path.{◌≡◌, refl, sym, ap, subst, ◌∙◌}
-use mathlib.Core.Logic.{inl, inr}
 use mathlib.Core.Bool.{Bool, true, false, cond}
-use mathlib.Core.List.{List, [], ◌∷◌}
+use mathlib.Core.List.{List}
 use Prim.Native.Nat.{ℕ, ◌≤◌, ◌<◌}
 use native.Mathlib.Omega.{arith}
 use lib.Dec.{ltb}
 use lib.ListN.{length, set}
 use borrow.Author.Tests.{lt-ltb, le-ltb}
-use types.Run.{OneOf}
-use denote.Enum.Declared.{tag_of}
 use Rattle.tables.specs.Layout.{room_for_pieces, room_for_phrases}
-use Rattle.records.specs.contracts.records.Found.{the_type}
+use Rattle.records.specs.declared.records.Cursor.{Cursor}
 use Rattle.records.specs.declared.records.Found.{Found}
 use Rattle.records.specs.declared.records.Found.TheVariants.{Header, Phrase, Bounded, Open, Keyword, End, Refused}
 use Rattle.records.specs.Records.{read_at}
@@ -53,24 +50,25 @@ module _ (bytes : List ℕ) (now : Reading) {found told : Found} (is : found ≡
   pub short_told : Short told
   short_told = subst Short (sym is ∙ tells) (read_short bytes now.progress.at)
 
--- The variants are counted from 0, in their order: phrases, gaps and keywords are 1 to 4.
-others : (tag : ℕ) → 0 < tag → tag < 5 → OneOf (0 ∷ 5 ∷ 6 ∷ []) tag → ⊥
-others tag low high (inl e) = omega arith
-others tag low high (inr (inl e)) = omega arith
-others tag low high (inr (inr e)) = omega arith
+-- What is no phrase, no gap and no keyword.
+pub record Passed (found : Found) : Type 0 where
+  pub no_phrase : (number : Number) (rights : ℕ) (next : Cursor) → found ≡ Phrase number rights next → ⊥
+  pub no_bounded : (least most : ℕ) (next : Cursor) → found ≡ Bounded least most next → ⊥
+  pub no_open : (least : ℕ) (next : Cursor) → found ≡ Open least next → ⊥
+  pub no_keyword : (start count : ℕ) (next : Cursor) → found ≡ Keyword start count next → ⊥
 
--- What is no phrase, no gap and no keyword only moves the progress on, past it.
+-- It only moves the progress on, past it.
 module _ (bytes : List ℕ) (now : Reading) where
-  passed_by : (found : Found) → OneOf (0 ∷ 5 ∷ 6 ∷ []) (tag_of the_type found) → reading (moved_to (past_of found (length bytes)) now.progress) now.notes ≡ turn_for bytes now found
+  passed_by : (found : Found) → Passed found → reading (moved_to (past_of found (length bytes)) now.progress) now.notes ≡ turn_for bytes now found
   passed_by (Header edition next) other = refl
-  passed_by (Phrase number rights next) other = absurd (others 1 (omega arith) (omega arith) other)
-  passed_by (Bounded least most next) other = absurd (others 2 (omega arith) (omega arith) other)
-  passed_by (Open least next) other = absurd (others 3 (omega arith) (omega arith) other)
-  passed_by (Keyword start count next) other = absurd (others 4 (omega arith) (omega arith) other)
+  passed_by (Phrase number rights next) other = absurd (other.no_phrase number rights next refl)
+  passed_by (Bounded least most next) other = absurd (other.no_bounded least most next refl)
+  passed_by (Open least next) other = absurd (other.no_open least next refl)
+  passed_by (Keyword start count next) other = absurd (other.no_keyword start count next refl)
   passed_by (End count next) other = refl
   passed_by (Refused why at) other = refl
 
-  pub passed_turn : {found : Found} {next : ℕ} {onward : Progress} → found ≡ read_at bytes now.progress.at → OneOf (0 ∷ 5 ∷ 6 ∷ []) (tag_of the_type found)
+  pub passed_turn : {found : Found} {next : ℕ} {onward : Progress} → found ≡ read_at bytes now.progress.at → Passed found
       → next ≡ past_of found (length bytes) → onward ≡ moved_to next now.progress → reading onward now.notes ≡ turn_at bytes now
   passed_turn {found = found} is other past moved =
       turned bytes now is refl (ap (λ (p : Progress). reading p now.notes) (moved ∙ ap (λ (k : ℕ). moved_to k now.progress) past) ∙ passed_by found other)

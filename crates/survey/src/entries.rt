@@ -13,7 +13,7 @@ use tables::layout::{
 const PAIR: usize = 65536;
 
 // The entry of a piece, but for its link.
-#[derive(Drop)]
+#[derive(Clone, Copy)]
 pub struct Entry {
     pub delay: u16,
     pub span: u16,

@@ -1,5 +1,7 @@
 // The second reading of a phrase book: enters its phrases and pieces into the table memory, and notes where its keywords stand.
 // It is made for a book that was judged sound, and is safe and ends for any bytes.
+#![tactic(auto)]
+
 ghost use Rattle.std.specs.Prelude.{◌<◌, length};
 ghost use Rattle.tables.specs.Reads.{Whole};
 ghost use Rattle.survey.specs.Turns.{noted};
@@ -17,7 +19,7 @@ mod turns;
 pub use mark::mark_of;
 
 // How many phrases and pieces were entered.
-#[derive(Drop)]
+#[derive(Clone, Copy)]
 pub struct Surveyed {
     pub phrases: usize,
     pub pieces: usize,

@@ -5,7 +5,7 @@ ghost use Rattle.survey.specs.Progress.{at_start, moved_to, after_name, after_ga
 
 use counters::Rank;
 
-#[derive(Drop)]
+#[derive(Clone, Copy)]
 pub struct Progress {
     // The offset at which the next record begins.
     pub at: usize,

@@ -10,7 +10,7 @@ use records::{Cursor, Found, past, read};
 use tables::layout::{NEVER_CLOSES, ROOM_FOR_PHRASES, ROOM_FOR_PIECES};
 
 // A keyword that was found: so many bytes from a start on, and the offset behind it.
-#[derive(Drop)]
+#[derive(Clone, Copy)]
 pub struct Word {
     pub start: usize,
     pub count: usize,

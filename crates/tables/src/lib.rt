@@ -1,6 +1,8 @@
 // The table memory: what is read from it, field by field. Every reader is safe on any bytes of the published size.
+#![tactic(auto)]
+
 ghost use Rattle.std.specs.Prelude.{◌≡◌, ◌+◌, ◌*◌, ◌≤◌, ◌<◌, length};
-ghost use Rattle.format.specs.Faults.{between as betweenOf};
+ghost use Rattle.format.specs.Faults.{between as between_of};
 ghost use Rattle.tables.specs.Layout.{tables_size, room_for_states, room_for_pieces, room_for_phrases};
 ghost use Rattle.tables.specs.Reads.{Whole, state_count_in, dense_in, piece_count_in, phrase_count_in, mark_in};
 ghost use Rattle.tables.specs.Reads.{column_in, cell_in, depth_in, gain_in};
@@ -22,7 +24,7 @@ pub fn size() -> usize
 
 // Whether a number lies between two others, both included.
 fn between(low: usize, high: usize, n: usize) -> bool
-    ensures { result ≡ betweenOf low high n }
+    ensures { result ≡ between_of low high n }
 {
     if low <= n {
         return n <= high;
