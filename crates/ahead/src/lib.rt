@@ -1,5 +1,7 @@
 // The states that the bytes of a part lead to, looked up ahead: four cursors go over four quarters side by side, so that the reads of
 // one need not wait for those of another.
+#![tactic(auto)]
+
 ghost use Rattle.std.specs.Prelude.{◌≡◌, ◌+◌, ◌*◌, ◌≤◌, ◌<◌, length};
 ghost use Rattle.tables.specs.Layout.{room_for_states};
 ghost use Rattle.tables.specs.Reads.{state_count_in};

@@ -2,12 +2,12 @@
 ghost use Rattle.std.specs.Prelude.{◌≡◌, ◌≤◌};
 ghost use Rattle.tables.specs.Layout.{room_for_states};
 ghost use Rattle.tables.specs.Reads.{Whole, state_count_in, dense_in};
-ghost use Rattle.ahead.specs.Columns.{larger as largerOf, farthest, columns_fit};
+ghost use Rattle.ahead.specs.Columns.{larger as larger_of, farthest, columns_fit};
 
 use tables::layout;
 
 fn larger(a: u16, b: u16) -> u16
-    ensures { result ≡ largerOf a b }
+    ensures { result ≡ larger_of a b }
 {
     if a < b { b } else { a }
 }

@@ -6,7 +6,7 @@ ghost use Rattle.seeking.specs.Quick.{quick_in};
 ghost use Rattle.ahead.specs.Cursors.{Below, ColumnOf, TurnReady, Columned, Found, Turned};
 
 // Where the four cursors stand: the index of a state each.
-#[derive(Drop)]
+#[derive(Clone, Copy)]
 pub struct Cursors {
     pub first: usize,
     pub second: usize,
@@ -15,7 +15,7 @@ pub struct Cursors {
 }
 
 // Where the columns begin in which the next byte of each quarter has its cells.
-#[derive(Drop)]
+#[derive(Clone, Copy)]
 struct Columns {
     first: usize,
     second: usize,

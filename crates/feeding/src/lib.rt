@@ -1,5 +1,7 @@
 // Takes the bytes of a part, while any remains and the free room is enough for a report of every phrase: it glides over the
 // bytes at which nothing happens, and does what happens at the others. The states of a long part are looked up ahead, block by block.
+#![tactic(auto)]
+
 ghost use Rattle.std.specs.Prelude.{◌≡◌, ◌/◌, length};
 ghost use Rattle.feeding.specs.Taken.{at_start, run_of, progress_on, way_from, part_taken, steps_of};
 ghost use Rattle.feeding.specs.Ready.{Ready, Kept, Countable};
@@ -12,7 +14,7 @@ mod quarter; // quarter.rt: a quarter of a block
 mod rest; // rest.rt: the rest of a part, byte by byte
 
 // How far a call has come: the state and the place, and the bytes taken, the reports written and the sum of the gains of the call.
-#[derive(Drop)]
+#[derive(Clone, Copy)]
 pub struct Progress {
     pub state: State,
     pub place: Place,

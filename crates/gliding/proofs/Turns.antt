@@ -1,7 +1,6 @@
 -- The quiet loop in rest form: what gliding over the rest of the part comes to from here is what it comes to from the start.
 -- Assumes nothing.
 use mathlib.Core.Path.{◌≡◌, refl, sym, ap, ap₂, ◌∙◌}
-use mathlib.Core.Logic.{⊎_elim}
 use mathlib.Core.Bool.{Bool, true, false, not, false≢true}
 use mathlib.Core.List.{List, [], ◌∷◌}
 use Prim.Native.Nat.{ℕ, suc, ◌+◌, ◌*◌, ◌≤◌, ◌<◌}
@@ -10,10 +9,9 @@ use native.Mathlib.Omega.{arith}
 use lib.ListN.{length, get_or, drop}
 use lib.Seq.{drop-cons, drop-length}
 use borrow.Author.Tests.{not-true, not-false}
-use Rattle.lent.proofs.Cases.{lt_or_le}
 use Rattle.tables.specs.Reads.{state_count_in, dense_in, gain_in}
 use Rattle.seeking.specs.Quick.{sought_in, quick_in}
-use Rattle.seeking.proofs.Found.{quick_found, quick_stray, quick_inside}
+use Rattle.seeking.proofs.Found.{quick_found, quick_stray}
 use Rattle.gliding.specs.Glide.{Gone, further, quiet_at, goes_on, Glide, one_on, glide_in, glide_of, GlideKept}
 use Rattle.gliding.specs.declared.Way.{Way}
 

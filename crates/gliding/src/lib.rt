@@ -1,5 +1,7 @@
 // The quiet loop: bytes are taken one after the other, most of them with one cell of the tables, until something happens. It
 // writes nothing.
+#![tactic(auto)]
+
 ghost use Rattle.std.specs.Prelude.{◌≡◌, ◌<◌, drop};
 ghost use Rattle.tables.specs.Layout.{room_for_states};
 ghost use Rattle.tables.specs.Reads.{Whole};
@@ -12,7 +14,7 @@ use running::layout::FLAG;
 
 // How far the bytes of a part have been taken: the state, the place, how many bytes, and the sum of the gains; and whether
 // what happens at the last of them is still to be done.
-#[derive(Drop)]
+#[derive(Clone, Copy)]
 pub struct Way {
     pub state: State,
     pub place: Place,
@@ -33,7 +35,7 @@ pub fn is_quiet(t: &[u8], m: &[u8], state: State, place: Place) -> bool
 }
 
 // The same as the way, with the index of the state: the loop keeps it in one register from byte to byte.
-#[derive(Drop)]
+#[derive(Clone, Copy)]
 struct Going {
     index: usize,
     place: Place,

@@ -1,4 +1,6 @@
 // The phrases that end at a place, one mark for each, and their reports read off in the order of the marks.
+#![tactic(auto)]
+
 ghost use Rattle.std.specs.Prelude.{◌≡◌, [], ◌∷◌, ◌+◌, ◌*◌, ◌≤◌, ◌<◌, length};
 ghost use Rattle.counters.specs.Counters.{InLetter};
 ghost use Rattle.lent.specs.Numbers.{with_bytes};
@@ -17,7 +19,7 @@ const HALF: usize = 64;
 const RANKS: usize = tables::layout::ROOM_FOR_PHRASES;
 
 // A mark for each phrase of a book, by its rank: the ranks below 64 in the low number, those from 64 on in the high one.
-#[derive(Drop)]
+#[derive(Clone, Copy)]
 pub struct Marks {
     low: u64,
     high: u64,

@@ -1,5 +1,7 @@
 // The running memory: its size, where its regions begin, and which slot of its ring is a place's. What they hold after some
 // bytes stands in specs/.
+#![tactic(auto)]
+
 ghost use Rattle.std.specs.Prelude.{◌≡◌, ◌<◌};
 ghost use Rattle.running.specs.Layout.{running_size};
 ghost use Rattle.running.specs.Waiting.{slots, slot_of};

@@ -15,7 +15,7 @@ use Rattle.meaning.specs.Books.{Book}
 use Rattle.meaning.specs.Calls.{largest_place, fed}
 use Rattle.running.specs.Layout.{running_size}
 use Rattle.running.proofs.Held.{running_once}
-use Rattle.scanner.specs.Answers.{begunNumber, Said, said}
+use Rattle.scanner.specs.Answers.{begun_number, Said, said}
 use Rattle.scanner.specs.Exact.{BeginEnd, FeedEnd}
 use Rattle.scanner.specs.Meant.{RunningOf, PastKept, BeginDone, FeedRefused, FeedDone, FeedRight}
 use Rattle.scanner.specs.Promised.{BeginPromise, FeedPromise}
@@ -30,13 +30,13 @@ use Rattle.scanner.specs.declared.Fed.TheVariants as answers
 begun_by : ℕ → Begun
 begun_by number = cond (eqb number 0) begun.Done (cond (eqb number 1) begun.TooSmall begun.NotPassed)
 
-begun_by_lem : (answer : Begun) → begun_by (begunNumber answer) ≡ answer
-unfolding begunNumber begun_by
+begun_by_lem : (answer : Begun) → begun_by (begun_number answer) ≡ answer
+unfolding begun_number begun_by
 begun_by_lem begun.Done = refl
 begun_by_lem begun.TooSmall = refl
 begun_by_lem begun.NotPassed = refl
 
-pub begun_once : (first second : Begun) → begunNumber first ≡ begunNumber second → first ≡ second
+pub begun_once : (first second : Begun) → begun_number first ≡ begun_number second → first ≡ second
 begun_once first second e = sym (begun_by_lem first) ∙ ap begun_by e ∙ begun_by_lem second
 
 -- The case that says these numbers.

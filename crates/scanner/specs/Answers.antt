@@ -6,10 +6,10 @@ use Rattle.scanner.specs.declared.Fed.{Fed}
 use Rattle.scanner.specs.declared.Fed.TheVariants as fed
 
 -- The number that begin gives.
-unfoldable pub begunNumber : Begun → ℕ
-begunNumber begun.Done = 0
-begunNumber begun.TooSmall = 1
-begunNumber begun.NotPassed = 12
+unfoldable pub begun_number : Begun → ℕ
+begun_number begun.Done = 0
+begun_number begun.TooSmall = 1
+begun_number begun.NotPassed = 12
 
 -- What feed gives: the number, the bytes taken, the reports written, the failure steps.
 pub record Said : Type 0 where

@@ -8,7 +8,7 @@ use Rattle.tables.specs.Regions.{Laid}
 use Rattle.tables.specs.Layout.{tables_size, tables_layout}
 use Rattle.running.specs.Layout.{running_size, running_layout}
 use Rattle.tracking.specs.Reports.{in_room}
-use Rattle.scanner.specs.Answers.{begunNumber, refusal, said}
+use Rattle.scanner.specs.Answers.{begun_number, refusal, said}
 use Rattle.scanner.specs.Exact.{BeginEnd, FeedEnd}
 
 -- The lent table memory holds the tables of a book within the limits, as build leaves them.
@@ -33,7 +33,7 @@ PastKept m after = (length after ≡ length m) × ((i : ℕ) → running_size �
 
 -- The memory is the book's before the first byte, whatever it held.
 pub record BeginDone (book : Book) (m : List ℕ) (end : BeginEnd) : Type 0 where
-  pub number : begunNumber end.answer ≡ 0
+  pub number : begun_number end.answer ≡ 0
   pub memory : RunningOf book [] end.memory
   pub past : PastKept m end.memory
 

@@ -7,7 +7,7 @@ use Rattle.tables.specs.Passing.{tables_pass}
 use Rattle.running.specs.Layout.{running_size}
 use Rattle.feeding.specs.Taken.{Run, at_start}
 use Rattle.feeding.specs.Rule.{TookBytes}
-use Rattle.scanner.specs.Answers.{begunNumber, said}
+use Rattle.scanner.specs.Answers.{begun_number, said}
 use Rattle.scanner.specs.Passing.{state_held, place_held, running_pass}
 use Rattle.scanner.specs.Exact.{BeginEnd, begin_of, FeedEnd, feed_of}
 use Rattle.scanner.specs.Meant.{TablesOf, RunningOf, BeginDone, FeedRefused, FeedRight}
@@ -20,7 +20,7 @@ Small t m = (length t < tables_size) ⊎ (length m < running_size)
 
 -- A refused begin changes nothing.
 pub record BeginRefused (number : ℕ) (m : List ℕ) (end : BeginEnd) : Type 0 where
-  pub says : begunNumber end.answer ≡ number
+  pub says : begun_number end.answer ≡ number
   pub memory_kept : end.memory ≡ m
 
 pub record BeginPromise (t m : List ℕ) (end : BeginEnd) : Type 0 where

@@ -1,4 +1,6 @@
 // The calls of a desk that reads a letter: begin, and then feed, part after part. Each says what it refuses and why.
+#![tactic(auto)]
+
 ghost use Rattle.std.specs.Prelude.{◌≡◌, ◌≤◌, length};
 ghost use Rattle.running.specs.Layout.{running_size};
 ghost use Rattle.running.specs.Reads.{WholeRunning};
@@ -17,7 +19,7 @@ use running::layout::{MARK, PLACE, RUNNING_TAG, STATE, TAG};
 const LARGEST_PLACE: u64 = 4294967295;
 
 // What begin answers.
-#[derive(Drop)]
+#[derive(Clone, Copy)]
 pub enum Begun {
     // the running memory is begun
     Done,
@@ -28,7 +30,7 @@ pub enum Begun {
 }
 
 // What feed answers.
-#[derive(Drop)]
+#[derive(Clone, Copy)]
 pub enum Fed {
     // so many bytes are taken, with so many reports and failure steps
     Took {

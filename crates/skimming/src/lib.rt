@@ -1,5 +1,7 @@
 // The quiet loop where the states were looked up ahead: the places of a part are gone over, by eights where nothing happens. It
 // writes nothing.
+#![tactic(auto)]
+
 ghost use Rattle.std.specs.Prelude.{◌≡◌, false, ◌-◌, ◌<◌, drop};
 ghost use Rattle.gliding.specs.Glide.{glide_in, gone_by, glide_of, GlideKept};
 ghost use Rattle.seeking.specs.Foreseen.{after_from};
@@ -30,7 +32,7 @@ const ENDING: u64 = 128;
 
 // How far the places have been gone over: where the state of the next one stands, how many bytes are left, the place and the sum
 // of the gains; and whether what happens at the last of them is still to be done.
-#[derive(Drop)]
+#[derive(Clone, Copy)]
 struct Looking {
     at: usize,
     left: usize,

@@ -1,5 +1,5 @@
 -- Running memory while the first pieces are set to wait. Assumes nothing: these are definitions.
-use Rattle.std.specs.Prelude.{◌≡◌, Bool, ◌&&◌, List, ℕ, ◌+◌, ◌<◌, ltb, eqb, get_or}
+use Rattle.std.specs.Prelude.{◌≡◌, Bool, ◌&&◌, List, ℕ, ◌<◌, ltb, eqb, get_or}
 use Rattle.lent.specs.Numbers.{Bytes}
 use Rattle.tables.specs.Layout.{room_for_pieces}
 use Rattle.tables.specs.Reads.{first_in}

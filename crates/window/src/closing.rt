@@ -5,7 +5,7 @@ ghost use Rattle.window.specs.Closing.{renewed_to};
 use counters::Place;
 
 // The last place at which the piece may end. One suffices, since a window that opens later closes later.
-#[derive(Drop)]
+#[derive(Clone, Copy)]
 pub struct Window {
     pub closes: Place,
 }

@@ -1,4 +1,6 @@
 // The windows in the lent running memory: a piece waits, its window opens, it ends, its phrase is reported.
+#![tactic(auto)]
+
 ghost use Rattle.std.specs.Prelude.{◌≡◌, ◌+◌, ◌*◌, ◌≤◌, ◌<◌, length};
 ghost use Rattle.counters.specs.Counters.{InLetter};
 ghost use Rattle.tables.specs.Layout.{room_for_states, room_for_phrases};

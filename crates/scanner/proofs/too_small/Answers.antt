@@ -1,0 +1,18 @@
+-- One memory is below its size, or the other decides.
+-- Assumes nothing.
+use mathlib.Core.Path.{sym, ap, ◌∙◌}
+use native.Mathlib.Omega.{arith}
+use lib.Dec.{ltb}
+use lib.ListN.{length}
+use Rattle.scanner.proofs.Passing.{small_tables, small_memory}
+use Rattle.scanner.proofs.too_small.Goals as goal
+
+pub returns-then-t-size : goal.returns-then-t-size
+returns-then-t-size c =
+    let a = c.args in
+    sym (small_tables a.t.now a.m.now (omega arith))
+
+pub returns : goal.returns
+returns c =
+    let a = c.args in
+    ap (ltb (length a.m.now)) c.size-2.ensures ∙ sym (small_memory a.t.now a.m.now (omega arith))
