@@ -1,6 +1,6 @@
--- What build's contract says of the tables: where the answer's number is above 1 they don't pass test 12, and where the book is accepted they are
+-- What build's contract says of the tables: where the answer's number is not 0 or 1 they don't pass test 12, and where the book is accepted they are
 -- the book's. Assumes nothing.
-use mathlib.Core.Path.{◌≡◌, sym, ap, ◌∙◌}
+use mathlib.Core.Path.{◌≡◌, refl, sym, ap, ◌∙◌}
 use mathlib.Core.Logic.{⊎_elim}
 use mathlib.Core.Bool.{false}
 use mathlib.Core.List.{List}
@@ -16,7 +16,7 @@ use Rattle.tables.specs.Layout.{tables_size}
 use Rattle.tables.specs.Passing.{tables_pass}
 use Rattle.builder.specs.declared.answers.Built.{Built}
 use Rattle.builder.specs.declared.answers.Built.TheVariants.{Done, TooSmall, Refused}
-use Rattle.builder.specs.Answers.{Said, said, saidBy, said_of}
+use Rattle.builder.specs.Answers.{Said, said, said_by, said_of}
 use Rattle.builder.specs.Build.{Holds, Judged, BuiltRight}
 use Rattle.builder.proofs.Passed.{refused_fails}
 use Rattle.scanner.specs.Meant.{TablesOf}
@@ -24,11 +24,11 @@ use Rattle.scanner.specs.Meant.{TablesOf}
 module _ (bytes before : List ℕ) (answer : Built) (tables : List ℕ) (build : BuiltRight bytes before answer tables) where
   -- ── Refused otherwise than with 1 ──
 
-  module _ (otherwise : 1 < (saidBy answer).number) where
+  module _ (refused : (said_by answer).number ≡ 0 → ⊥) (otherwise : (said_by answer).number ≡ 1 → ⊥) where
     -- Then the memory was of the published size, since else the number is 1.
     before_large : tables_size ≤ length before
     before_large = ⊎_elim
-        (λ (small : length before < tables_size). absurd (omega (arith, otherwise, ap (λ (s : Said). s.number) (build.meant.small small).says)))
+        (λ (small : length before < tables_size). absurd (otherwise (ap (λ (s : Said). s.number) (build.meant.small small).says)))
         (λ (large : tables_size ≤ length before). large)
         (lt_or_le (length before) tables_size)
 
@@ -36,13 +36,13 @@ module _ (bytes before : List ℕ) (answer : Built) (tables : List ℕ) (build :
     tables_large = omega (arith, before_large, (build.meant.large before_large).long)
 
     pub tables_fail : tables_pass tables ≡ false
-    unfolding saidBy
-    tables_fail = go answer build otherwise
+    unfolding said_by
+    tables_fail = go answer build refused otherwise
       where
-        go : (a : Built) → BuiltRight bytes before a tables → 1 < (saidBy a).number → tables_pass tables ≡ false
-        go (Done n) right above = absurd (omega (arith, above))
-        go TooSmall right above = absurd (omega (arith, above))
-        go (Refused why at) right above = refused_fails bytes before tables before_large why at right.meant
+        go : (a : Built) → BuiltRight bytes before a tables → ((said_by a).number ≡ 0 → ⊥) → ((said_by a).number ≡ 1 → ⊥) → tables_pass tables ≡ false
+        go (Done n) right some other = absurd (some refl)
+        go TooSmall right some other = absurd (other refl)
+        go (Refused why at) right some other = refused_fails bytes before tables before_large why at right.meant
 
   -- ── Accepted ──
 
@@ -54,11 +54,11 @@ module _ (bytes before : List ℕ) (answer : Built) (tables : List ℕ) (build :
     judgement_is : right.judgement ≡ accepted book offset
     judgement_is = sym (judges_judged bytes right.judgement right.true_of) ∙ sound
 
-    pub built_done : saidBy answer ≡ said 0 (length bytes)
+    pub built_done : said_by answer ≡ said 0 (length bytes)
     unfolding Judges said_of
     built_done = go right.judgement judgement_is right.true_of right.says
       where
-        go : (j : Judgement) → j ≡ accepted book offset → Judges bytes j → saidBy answer ≡ said_of j → saidBy answer ≡ said 0 (length bytes)
+        go : (j : Judgement) → j ≡ accepted book offset → Judges bytes j → said_by answer ≡ said_of j → said_by answer ≡ said 0 (length bytes)
         go j e true_of says = says ∙ ap said_of e ∙ ap (said 0) (rw e at true_of).1
 
     pub tables_of_lem : Bytes tables → TablesOf book tables

@@ -7,7 +7,7 @@ use Rattle.running.specs.Layout.{running_size}
 use Rattle.tracking.specs.Reports.{in_room}
 use Rattle.builder.specs.declared.answers.Built.{Built}
 use Rattle.builder.specs.Answers as build
-use Rattle.scanner.specs.Answers.{begunNumber, refusal, said}
+use Rattle.scanner.specs.Answers.{begun_number, refusal, said}
 use Rattle.scanner.specs.Exact.{BeginEnd, FeedEnd}
 use Rattle.scanner.specs.Meant.{FeedRight}
 use Rattle.scanner.specs.Promised.{BeginPromise, FeedPromise}
@@ -19,7 +19,7 @@ use Rattle.demands.specs.Desk.{Feed, bytes_taken, reports_joined, steps_added}
 -- nothing, and feed says 0 bytes taken, 0 reports, 0 steps. So with any running memory, any part and any room.
 pub record AnsweredWith12 (tables : List ℕ) : Type 0 where
   pub begin : (running : List ℕ) (end : BeginEnd) → running_size ≤ length running → BeginPromise tables running end
-      → (begunNumber end.answer ≡ 12) × (end.memory ≡ running)
+      → (begun_number end.answer ≡ 12) × (end.memory ≡ running)
   pub feed : (running part room : List ℕ) (end : FeedEnd) → running_size ≤ length running → FeedPromise tables running part room end
       → (said end.answer ≡ refusal 12) × (end.memory ≡ running) × (end.room ≡ room)
 
@@ -37,9 +37,9 @@ EachRight book x running (feed ∷ rest) =
 -- joined are exactly those of the bytes taken, in their order, and the failure steps add up to what the automaton's definition gives, never more
 -- than the bytes.
 pub record LetterAnswered (book : Book) (bytes : List ℕ) (built : Built) (begun : BeginEnd) (feeds : List Feed) : Type 0 where
-  pub built_done : build.saidBy built ≡ build.said 0 (length bytes)
-  pub begun_done : begunNumber begun.answer ≡ 0
+  pub built_done : build.said_by built ≡ build.said 0 (length bytes)
+  pub begun_done : begun_number begun.answer ≡ 0
   pub each_right : EachRight book [] begun.memory feeds
-  pub reports_joined : reports_joined feeds ≡ in_room (reports book (bytes_taken feeds))
-  pub steps_added : steps_added feeds ≡ steps book (bytes_taken feeds)
+  pub all_reports : reports_joined feeds ≡ in_room (reports book (bytes_taken feeds))
+  pub all_steps : steps_added feeds ≡ steps book (bytes_taken feeds)
   pub steps_at_most : steps_added feeds ≤ length (bytes_taken feeds)

@@ -1,1 +1,2 @@
 // No code: what a desk may count on when it builds, begins and feeds stands in specs/, the theorems in proofs/.
+#![tactic(auto)]

@@ -5,7 +5,7 @@ use mathlib.Core.List.{List}
 use Prim.Native.Nat.{ℕ}
 use Rattle.builder.specs.Answers as build
 use Rattle.builder.proofs.Once.{exact_once}
-use Rattle.scanner.specs.Answers.{begunNumber, said}
+use Rattle.scanner.specs.Answers.{begun_number, said}
 use Rattle.scanner.specs.Exact.{BeginEnd, FeedEnd}
 use Rattle.scanner.proofs.Once.{begin_exact_once, feed_exact_once}
 use Rattle.desk.specs.Answers.{BuiltGiven, BuildAnswers, BegunGiven, BeginAnswers, FedGiven, FeedAnswers}
@@ -14,14 +14,14 @@ pub build_answers_once : (book before : List ℕ) (first second : BuiltGiven) �
 build_answers_once book before first second one other =
     let same = exact_once book before one.answer other.answer first.tables second.tables one.promised other.promised in
     ap₂ {C = BuiltGiven} (λ says tables. record { says = says; tables = tables })
-    (one.numbers ∙ ap build.saidBy same.0 ∙ sym other.numbers)
+    (one.numbers ∙ ap build.said_by same.0 ∙ sym other.numbers)
     same.1
 
 pub begin_answers_once : (t m : List ℕ) (first second : BegunGiven) → BeginAnswers t m first → BeginAnswers t m second → first ≡ second
 begin_answers_once t m first second one other =
     let same = begin_exact_once t m _ _ one.promised other.promised in
     ap₂ {C = BegunGiven} (λ number memory. record { number = number; memory = memory })
-    (one.numbers ∙ ap (λ (end : BeginEnd). begunNumber end.answer) same ∙ sym other.numbers)
+    (one.numbers ∙ ap (λ (end : BeginEnd). begun_number end.answer) same ∙ sym other.numbers)
     (ap (λ (end : BeginEnd). end.memory) same)
 
 pub feed_answers_once : (t m part room : List ℕ) (first second : FedGiven) → FeedAnswers t m part room first → FeedAnswers t m part room second → first ≡ second

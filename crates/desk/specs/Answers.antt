@@ -6,7 +6,7 @@ use Rattle.builder.specs.Answers as build
 use Rattle.builder.specs.Build.{BuiltRight}
 use Rattle.scanner.specs.declared.Begun.{Begun}
 use Rattle.scanner.specs.declared.Fed.{Fed}
-use Rattle.scanner.specs.Answers.{begunNumber, Said, said}
+use Rattle.scanner.specs.Answers.{begun_number, Said, said}
 use Rattle.scanner.specs.Promised.{BeginPromise, FeedPromise}
 use Rattle.desk.specs.declared.numbers.TsuvrankheBuilt.{TsuvrankheBuilt}
 use Rattle.desk.specs.declared.numbers.TsuvrankheFed.{TsuvrankheFed}
@@ -14,22 +14,22 @@ use Rattle.desk.specs.declared.numbers.TsuvrankheFed.{TsuvrankheFed}
 -- ── Build ──
 
 -- The number and the offset, in document 01's terms.
-unfoldable pub builtSaid : TsuvrankheBuilt → build.Said
-builtSaid answer = build.said answer.number answer.offset
+unfoldable pub built_said : TsuvrankheBuilt → build.Said
+built_said answer = build.said answer.number answer.offset
 
 -- What a desk has after build: the numbers, and the table memory.
 pub record BuiltGiven : Type 0 where
   pub says : build.Said
   pub tables : List ℕ
 
-abbrev pub builtGiven : TsuvrankheBuilt → List ℕ → BuiltGiven
-builtGiven answer tables = record { says = builtSaid answer; tables = tables }
+abbrev pub built_given : TsuvrankheBuilt → List ℕ → BuiltGiven
+built_given answer tables = record { says = built_said answer; tables = tables }
 
 -- The numbers are those of an answer that build promises, and the memory is the promised one.
 pub record BuildAnswers (book before : List ℕ) (given : BuiltGiven) : Type 0 where
   pub answer : Built
   pub promised : BuiltRight book before answer given.tables
-  pub numbers : given.says ≡ build.saidBy answer
+  pub numbers : given.says ≡ build.said_by answer
 
 -- ── Begin ──
 
@@ -42,13 +42,13 @@ pub record BegunGiven : Type 0 where
 pub record BeginAnswers (t m : List ℕ) (given : BegunGiven) : Type 0 where
   pub answer : Begun
   pub promised : BeginPromise t m (record { answer = answer; memory = given.memory })
-  pub numbers : given.number ≡ begunNumber answer
+  pub numbers : given.number ≡ begun_number answer
 
 -- ── Feed ──
 
 -- The number, the bytes taken, the reports written and the failure steps, in document 01's terms.
-unfoldable pub fedSaid : TsuvrankheFed → Said
-fedSaid answer = record { number = answer.number; taken = answer.taken; reports = answer.reports; steps = answer.steps }
+unfoldable pub fed_said : TsuvrankheFed → Said
+fed_said answer = record { number = answer.number; taken = answer.taken; reports = answer.reports; steps = answer.steps }
 
 -- What a desk has after feed: the numbers, the running memory and the room.
 pub record FedGiven : Type 0 where
@@ -56,8 +56,8 @@ pub record FedGiven : Type 0 where
   pub memory : List ℕ
   pub room : List ℕ
 
-abbrev pub fedGiven : TsuvrankheFed → List ℕ → List ℕ → FedGiven
-fedGiven answer memory room = record { says = fedSaid answer; memory = memory; room = room }
+abbrev pub fed_given : TsuvrankheFed → List ℕ → List ℕ → FedGiven
+fed_given answer memory room = record { says = fed_said answer; memory = memory; room = room }
 
 -- The numbers are those of an answer that feed promises, and memory and room are the promised ones.
 pub record FeedAnswers (t m part room : List ℕ) (given : FedGiven) : Type 0 where

@@ -1,9 +1,11 @@
 // The calls of a desk, for programs in C or Rust: every argument is a slice, every answer is made of numbers. A slice comes
 // as a pointer and the number of its elements. No call asks anything of what the lent memory holds, and none keeps anything between calls.
+#![tactic(auto)]
+
 ghost use Rattle.std.specs.Prelude.{◌≡◌};
 ghost use Rattle.tables.specs.Layout.{tables_size};
 ghost use Rattle.running.specs.Layout.{running_size};
-ghost use Rattle.desk.specs.Answers.{builtGiven, BuildAnswers, BeginAnswers, fedGiven, FeedAnswers};
+ghost use Rattle.desk.specs.Answers.{built_given, BuildAnswers, BeginAnswers, fed_given, FeedAnswers};
 
 mod numbers;
 
@@ -28,7 +30,7 @@ pub extern "C" fn tsuvrankhe_running_size() -> usize
 // From a phrase book to its tables.
 #[unsafe(no_mangle)]
 pub extern "C" fn tsuvrankhe_build(book: &[u8], tables: &mut [u8]) -> TsuvrankheBuilt
-    ensures { BuildAnswers book.now tables.old (builtGiven result tables.new) }
+    ensures { BuildAnswers book.now tables.old (built_given result tables.new) }
 {
     let answer = builder::build(book, tables);
     numbers::of_built(answer)
@@ -51,7 +53,7 @@ pub extern "C" fn tsuvrankhe_feed(
     part: &[u8],
     room: &mut [u32],
 ) -> TsuvrankheFed
-    ensures { FeedAnswers tables.now running.old part.now room.old (fedGiven result running.new room.new) }
+    ensures { FeedAnswers tables.now running.old part.now room.old (fed_given result running.new room.new) }
 {
     let answer = scanner::feed(tables, running, part, room);
     numbers::of_fed(answer)

@@ -1,15 +1,15 @@
 // Document 01's numbers of each answer.
 ghost use Rattle.std.specs.Prelude.{◌≡◌};
-ghost use Rattle.builder.specs.Answers.{saidBy};
-ghost use Rattle.scanner.specs.Answers.{begunNumber, refusal, said};
-ghost use Rattle.desk.specs.Answers.{builtSaid, fedSaid};
+ghost use Rattle.builder.specs.Answers.{said_by};
+ghost use Rattle.scanner.specs.Answers.{begun_number, refusal, said};
+ghost use Rattle.desk.specs.Answers.{built_said, fed_said};
 
 use builder::Built;
 use scanner::{Begun, Fed};
 
 // What build answers: the number, and the offset of the record that it is about.
 #[repr(C)]
-#[derive(Drop)]
+#[derive(Clone, Copy)]
 pub struct TsuvrankheBuilt {
     pub number: u32,
     pub offset: usize,
@@ -17,7 +17,7 @@ pub struct TsuvrankheBuilt {
 
 // What feed answers: the number, the bytes taken, the reports written and the failure steps.
 #[repr(C)]
-#[derive(Drop)]
+#[derive(Clone, Copy)]
 pub struct TsuvrankheFed {
     pub number: u32,
     pub taken: usize,
@@ -33,7 +33,7 @@ fn wide(x: u8) -> u32
 
 // The number and the offset of what build answers.
 pub fn of_built(answer: Built) -> TsuvrankheBuilt
-    ensures { builtSaid result ≡ saidBy answer }
+    ensures { built_said result ≡ said_by answer }
 {
     let number = answer.number();
     let offset = answer.offset();
@@ -45,7 +45,7 @@ pub fn of_built(answer: Built) -> TsuvrankheBuilt
 
 // The number of what begin answers.
 pub fn of_begun(answer: Begun) -> u32
-    ensures { result ≡ begunNumber answer }
+    ensures { result ≡ begun_number answer }
 {
     match answer {
         Begun::Done => 0,
@@ -56,7 +56,7 @@ pub fn of_begun(answer: Begun) -> u32
 
 // A feed that is done.
 fn took(bytes: usize, hits: usize, steps: u64) -> TsuvrankheFed
-    ensures { fedSaid result ≡ said (Fed.Took bytes hits steps) }
+    ensures { fed_said result ≡ said (Fed.Took bytes hits steps) }
 {
     TsuvrankheFed {
         number: 0,
@@ -68,7 +68,7 @@ fn took(bytes: usize, hits: usize, steps: u64) -> TsuvrankheFed
 
 // A refused feed: nothing taken, nothing reported, no steps.
 fn refused(number: u32) -> TsuvrankheFed
-    ensures { fedSaid result ≡ refusal number }
+    ensures { fed_said result ≡ refusal number }
 {
     TsuvrankheFed {
         number,
@@ -80,7 +80,7 @@ fn refused(number: u32) -> TsuvrankheFed
 
 // The number and the counts of what feed answers.
 pub fn of_fed(answer: Fed) -> TsuvrankheFed
-    ensures { fedSaid result ≡ said answer }
+    ensures { fed_said result ≡ said answer }
 {
     match answer {
         Fed::Took {
