@@ -11,7 +11,7 @@ use Rattle.lent.proofs.Bytes.{length_with_bytes}
 use Rattle.lent.proofs.Cases.{lt_or_le}
 use Rattle.listing.specs.Lines.{hit_line, end_line, no_statement, letter_line}
 use Rattle.listing.specs.Writing.{Left, left, with_line}
-use Rattle.listing.proofs.Whole.{line-fits, line_short}
+use Rattle.listing.proofs.Whole.{line_fits, line_short}
 use Rattle.lines.specs.Rights.{rights_in}
 use Rattle.lines.specs.Hits.{number_in, place_in, hit_written, hits_written}
 use Rattle.lines.specs.Last.{without_hits, last_of, too_long_of}
@@ -25,7 +25,7 @@ pub line_inside : (out : List ℕ) (at : ℕ) (line : List ℕ) → at ≤ lengt
 line_inside out at line before =
     ⊎_elim
     (λ (short : length out < at + length line). rw (line_short out at line short) (record { long = refl; inside = before }))
-    (λ (room : at + length line ≤ length out). rw (line-fits out at line room) (record { long = length_with_bytes out at line; inside = room }))
+    (λ (room : at + length line ≤ length out). rw (line_fits out at line room) (record { long = length_with_bytes out at line; inside = room }))
     (lt_or_le (length out) (at + length line))
 
 line_behind : (n : ℕ) (here : Left) (line : List ℕ) → Inside n here → Inside n (with_line here.buffer here.next line)

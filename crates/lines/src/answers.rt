@@ -1,7 +1,7 @@
 // What opening a book and listing a part answer: whether the listing goes on, and where the lines end. Crate `parts` gives these answers.
 
 // Whether the letter may begin, and where the line of the book ends.
-#[derive(Drop)]
+#[derive(Clone, Copy)]
 pub enum Opened {
     // the book is accepted, and the lent memory is its own before the first byte: the book line is written
     Ready { end: usize },
@@ -10,7 +10,7 @@ pub enum Opened {
 }
 
 // How a part went, and where its hit lines end.
-#[derive(Drop)]
+#[derive(Clone, Copy)]
 pub enum Listed {
     // so many bytes of it were taken, with so many reports and failure steps
     Took {

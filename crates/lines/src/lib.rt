@@ -1,5 +1,7 @@
 // Lines one behind the other at the start of a lent buffer, each as crate `listing` words it: the hit lines of the reports that stand in the
 // room, and the last lines. Each function answers where its lines end.
+#![tactic(auto)]
+
 ghost use Rattle.std.specs.Prelude.{◌≡◌, ◌≤◌, length};
 ghost use Rattle.listing.specs.Writing.{left};
 ghost use Rattle.lines.specs.Last.{without_hits, LastPromise, TooLongPromise};

@@ -141,7 +141,7 @@ digits_only b bs h all =
 -- ── Digits in a buffer ──
 
 -- The last digit of a number goes behind the digits of a tenth of it.
-pub last-digit
+pub last_digit
     : (out : List ℕ) (at n : ℕ)
     → 10 ≤ n
     → {last : ℕ} {out' : List ℕ}
@@ -149,6 +149,6 @@ pub last-digit
     → out' ≡ with_bytes out at (digits (n / 10))
     → set out' last (digit (n % 10)) ≡ with_bytes out at (digits n)
 unfolding with_bytes
-last-digit out at n h end written =
+last_digit out at n h end written =
     ap₂ (λ (l : List ℕ) (k : ℕ). set l k (digit (n % 10))) written end
     ∙ sym (ap (with_bytes out at) (digits_big n h) ∙ with_bytes_split out at (digits (n / 10)) (digit (n % 10) ∷ []))

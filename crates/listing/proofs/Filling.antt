@@ -46,12 +46,12 @@ abbrev pub next_at : List ℕ → ℕ → ℕ → ℕ
 next_at form k i = next_number (get_or form i 0) k
 
 -- A form from its byte i on makes what that byte shows, and then what the form behind it makes.
-filled-from
+filled_from
     : (form numbers : List ℕ) (k i : ℕ)
     → i < length form
     → filled (drop i form) numbers k ≡ shows_at form numbers k i ++ filled (drop (i + 1) form) numbers (next_at form k i)
 unfolding filled
-filled-from form numbers k i h =
+filled_from form numbers k i h =
     ap (λ (rest : List ℕ). filled rest numbers k) (drop-cons form i 0 h ∙ ap (λ (j : ℕ). get_or form i 0 ∷ drop j form) (sym (add-one i)))
 
 -- A line that a form has made up to `end`, with the form's byte i and the number at k next: what the rest of the form makes, from `end`
@@ -72,7 +72,7 @@ pub one_shown
 one_shown {form = form} {numbers = numbers} {line = line} {end = end} {k = k} {i = i} f h =
     let now : List ℕ = shows_at form numbers k i in
     let rest : List ℕ = filled (drop (i + 1) form) numbers (next_at form k i) in
-    let cut : filled (drop i form) numbers k ≡ now ++ rest = filled-from form numbers k i h in
+    let cut : filled (drop i form) numbers k ≡ now ++ rest = filled_from form numbers k i h in
     let long : length (filled (drop i form) numbers k) ≡ length now + length rest = ap length cut ∙ length-append now rest in
     record {
       within = omega arith;
@@ -83,7 +83,7 @@ one_shown {form = form} {numbers = numbers} {line = line} {end = end} {k = k} {i
     }
 
 -- So it is for the line, the end and the next number that one turn comes to.
-pub turn-shown
+pub turn_shown
     : {start form numbers line : List ℕ} {end k i : ℕ}
     → Filling start form numbers line end k i
     → i < length form
@@ -93,15 +93,15 @@ pub turn-shown
     → line' ≡ with_bytes line end (shown (get_or form i 0) number)
     → k' ≡ next_at form k i
     → Filling start form numbers line' end' k' (i + 1)
-turn-shown f h number ends written next = rw (written, ends, next, number) (one_shown f h)
+turn_shown f h number ends written next = rw (written, ends, next, number) (one_shown f h)
 
 -- What is shown next has room in the line.
-pub shown-room
+pub shown_room
     : {start form numbers line : List ℕ} {end k i : ℕ}
     → Filling start form numbers line end k i
     → i < length form
     → end + length (shows_at form numbers k i) ≤ length (filled form numbers 0)
-shown-room f h = omega (arith, (one_shown f h).ends)
+shown_room f h = omega (arith, (one_shown f h).ends)
 
 -- Past its last byte the form has made the line.
 pub all_shown

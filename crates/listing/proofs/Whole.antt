@@ -14,12 +14,12 @@ use Rattle.lent.proofs.Bytes.{length_with_bytes, byte_written}
 use Rattle.listing.specs.Writing.{left, with_line}
 
 -- A line that fits is written, and the next goes behind it.
-pub line-fits
+pub line_fits
     : (out : List ℕ) (at : ℕ) (line : List ℕ)
     → at + length line ≤ length out
     → with_line out at line ≡ left (with_bytes out at line) (at + length line)
 unfolding with_line
-line-fits out at line h = rw (le-leb _ _ h)
+line_fits out at line h = rw (le-leb _ _ h)
 
 -- A line that does not fit leaves all as it was.
 pub line_short : (out : List ℕ) (at : ℕ) (line : List ℕ) → length out < at + length line → with_line out at line ≡ left out at
@@ -43,13 +43,13 @@ unfolding with_bytes
 all_bytes out text at i h = ap (with_bytes out (at + i)) (sym (drop_of_length-le text h))
 
 -- A line written at the start of a list is the first bytes there.
-pub first-bytes
+pub first_bytes
     : (s line : List ℕ) {t : List ℕ} {n : ℕ}
     → length line ≤ length s
     → n ≡ length line
     → t ≡ with_bytes s 0 line
     → take n t ≡ line
-first-bytes s line room e w =
+first_bytes s line room e w =
     let new : List ℕ = with_bytes s 0 line in
     let size : length (take (length line) new) ≡ length line = length-take-le (length line) new (rw length_with_bytes room) in
     ap₂ take e w

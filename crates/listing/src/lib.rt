@@ -1,5 +1,7 @@
 // The lines of the listing, as bytes in a lent buffer. A line is written from `at` on, and the answer is where it ends. A line
 // that does not fit is not begun: the buffer stays as it was, and the answer is `at`.
+#![tactic(auto)]
+
 ghost use Rattle.std.specs.Prelude.{◌≡◌};
 ghost use Rattle.listing.specs.Lines.{book_line, refused_line, hit_line, end_line, no_statement, letter_line};
 ghost use Rattle.listing.specs.Writing.{left, with_line};

@@ -9,8 +9,6 @@ use native.Mathlib.Omega.{arith}
 use lib.Dec.{ltb}
 use lib.ListN.{length}
 use borrow.Author.Tests.{ltb-false}
-use types.Run.{OneOf}
-use denote.Enum.Declared.{tag_of}
 use Rattle.tables.specs.Layout.{room_for_phrases}
 use Rattle.tables.specs.Reads.{Whole, state_count_in, dense_in, phrase_count_in}
 use Rattle.seeking.specs.Quick.{quick_in}
@@ -21,10 +19,9 @@ use Rattle.scanner.specs.Passing.{state_held, place_held}
 use Rattle.scanner.specs.Exact.{FeedEnd, took_from, feed_of}
 use Rattle.scanner.specs.declared.Fed.{Fed}
 use Rattle.scanner.specs.declared.Fed.TheVariants as fed
-use Rattle.scanner.specs.contracts.Fed.{the_type}
 use Rattle.scanner.proofs.Rule.{Refused, Taking, feed_cases, rule_feed}
 use Rattle.listing.specs.Writing.{Left, left}
-use Rattle.lines.specs.Answers.{listedTaken, listedEnd}
+use Rattle.lines.specs.Answers.{listed_taken, listed_end}
 use Rattle.lines.specs.declared.answers.Listed.TheVariants as listed
 use Rattle.lines.proofs.Ends.{hits_inside}
 use Rattle.parts.specs.Exact.{ListEnd, took_answer, hits_of, took_with, listed_as, list_of}
@@ -83,24 +80,13 @@ module _ (t m part room out : List ℕ) (end : FeedEnd) (is : end ≡ feed_of t 
       ap (λ (a : Fed). listed_as a t end.memory end.room out) (sym e)
       ∙ ap (λ (f : FeedEnd). listed_as f.answer t f.memory f.room out) is
 
-  -- Any refusal but that of 11: the answers with these tags are the three others.
-  pub listed_refused : OneOf (1 ∷ 2 ∷ 3 ∷ []) (tag_of the_type end.answer)
+  -- Any refusal but that of 11 is one of the three others.
+  pub listed_refused : (end.answer ≡ fed.TooSmall) ⊎ (end.answer ≡ fed.NotPassed) ⊎ (end.answer ≡ fed.NoRoom)
       → record { answer = listed.NotTaken; running = end.memory; room = end.room; out = out } ≡ list_of t m part room out
   unfolding listed_as
-  listed_refused tags = go end.answer refl (between _ tags)
-    where
-      between : (tag : ℕ) → OneOf (1 ∷ 2 ∷ 3 ∷ []) tag → (1 ≤ tag) × (tag ≤ 3)
-      between tag (inl e) = (omega arith, omega arith)
-      between tag (inr (inl e)) = (omega arith, omega arith)
-      between tag (inr (inr e)) = (omega arith, omega arith)
-
-      go : (answer : Fed) → end.answer ≡ answer → (1 ≤ tag_of the_type answer) × (tag_of the_type answer ≤ 3)
-          → record { answer = listed.NotTaken; running = end.memory; room = end.room; out = out } ≡ list_of t m part room out
-      go (fed.Took taken reports steps) e tag = absurd (omega arith)
-      go fed.TooSmall e tag = listed_as_lem fed.TooSmall e
-      go fed.NotPassed e tag = listed_as_lem fed.NotPassed e
-      go fed.NoRoom e tag = listed_as_lem fed.NoRoom e
-      go fed.TooLong e tag = absurd (omega arith)
+  listed_refused (inl small) = listed_as_lem fed.TooSmall small
+  listed_refused (inr (inl other)) = listed_as_lem fed.NotPassed other
+  listed_refused (inr (inr full)) = listed_as_lem fed.NoRoom full
 
   pub listed_took : (taken reports steps : ℕ) → end.answer ≡ fed.Took taken reports steps
       → (after : List ℕ) (r : ℕ) → left after r ≡ hits_of t end.room reports out
@@ -113,11 +99,11 @@ module _ (t m part room out : List ℕ) (end : FeedEnd) (is : end ≡ feed_of t 
 -- ── Bytes taken and lines written are inside what was lent ──
 
 abbrev pub Within : List ℕ → List ℕ → ListEnd → Type 0
-Within part out end = (listedTaken end.answer ≤ length part) × (listedEnd end.answer ≤ length out)
+Within part out end = (listed_taken end.answer ≤ length part) × (listed_end end.answer ≤ length out)
 
 as_within : (t m part room out : List ℕ) (answer : Fed) → (feed_of t m part room).answer ≡ answer
     → Within part out (listed_as answer t (feed_of t m part room).memory (feed_of t m part room).room out)
-unfolding listed_as took_with listedTaken listedEnd
+unfolding listed_as took_with listed_taken listed_end
 as_within t m part room out (fed.Took taken reports steps) e = (
   (fed_told t m part room (feed_of t m part room) refl taken reports steps e).offered,
   (hits_inside t (feed_of t m part room).room (length out) 0 _ (left out 0) (record { long = refl; inside = omega arith })).inside,

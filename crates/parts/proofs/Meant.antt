@@ -23,8 +23,8 @@ use Rattle.scanner.proofs.Feeds.{feed_means}
 use Rattle.listing.specs.Lines.{longest_line}
 use Rattle.listing.specs.Writing.{Left, left}
 use Rattle.listing.specs.Listing.{hit_lines}
-use Rattle.listing.proofs.Whole.{first-bytes}
-use Rattle.lines.specs.Answers.{listedEnd}
+use Rattle.listing.proofs.Whole.{first_bytes}
+use Rattle.lines.specs.Answers.{listed_end}
 use Rattle.lines.specs.Last.{text_of}
 use Rattle.lines.specs.declared.answers.Listed.TheVariants as listed
 use Rattle.lines.proofs.Ends.{hits_inside}
@@ -103,10 +103,10 @@ module _ (book : Book) (x t m part room out : List ℕ) (tables : TablesOf book 
         let shown : lines ≡ left (with_bytes out 0 (hit_lines book hits)) (0 + length (hit_lines book hits)) = lines_shown wide in
         let ends : lines.next ≡ length (hit_lines book hits) = ap (λ (l : Left). l.next) shown ∙ omega arith in
         let inside : lines.next ≤ length out = (hits_inside t after.room (length out) 0 _ (left out 0) (record { long = refl; inside = omega arith })).inside in
-        first-bytes out (hit_lines book hits) (omega (arith, inside, ends)) ends (ap (λ (l : Left). l.buffer) shown)
+        first_bytes out (hit_lines book hits) (omega (arith, inside, ends)) ends (ap (λ (l : Left). l.buffer) shown)
 
     took_right : ListTook book x part room out count (took_with t after.memory after.room out count (length hits) failures)
-    unfolding took_with listedEnd fed
+    unfolding took_with listed_end fed
     took_right = record {
       rule = refl;
       goes_on = takes_some book x part (length room / 2) roomy;
@@ -155,8 +155,8 @@ module _ (book : Book) (x t m part room out : List ℕ) (tables : TablesOf book 
       }
 
 -- All that list_part promises follows from what it does exactly.
-pub list_promised : (t m part room out : List ℕ) (end : ListEnd) → end ≡ list_of t m part room out → ListPromise t m part room out end
-list_promised t m part room out end is = record {
+pub list_promised : (t m part room out : List ℕ) (ended : ListEnd) → ended ≡ list_of t m part room out → ListPromise t m part room out ended
+list_promised t m part room out ended is = record {
   exact = is;
   means = λ book x tables running. subst (ListRight book x m part room out) (sym is) (list_means book x t m part room out tables running);
 }

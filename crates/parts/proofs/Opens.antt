@@ -1,31 +1,28 @@
 -- Each way through open_book is one case of its definition, by what build and begin answer.
 -- Assumes nothing.
 use mathlib.Core.Path.{◌≡◌, refl, sym, ap, ap₂, subst, ◌∙◌}
-use mathlib.Core.Logic.{⊎_elim}
+use mathlib.Core.Logic.{◌⊎◌, inl, inr}
 use mathlib.Core.Bool.{Bool, true, false, cond}
-use mathlib.Core.List.{List, [], ◌∷◌}
-use Prim.Native.Nat.{ℕ, ◌≤◌, ◌<◌}
+use mathlib.Core.List.{List}
+use Prim.Native.Nat.{ℕ, ◌≤◌}
 use native.Mathlib.Omega.{arith}
 use lib.Dec.{eqb}
 use lib.ListN.{length}
 use borrow.Author.Tests.{eq-eqb, ne_eqb}
-use types.Run.{OneOf}
-use denote.Enum.Declared.{tag_of}
 use Rattle.tables.specs.Reads.{Whole, phrase_count_in}
 use Rattle.builder.specs.declared.answers.Built.{Built}
-use Rattle.builder.specs.Answers.{Said, said, saidBy}
+use Rattle.builder.specs.Answers.{Said, said, said_by}
 use Rattle.builder.specs.Build.{Outcome, outcome, build_of}
-use Rattle.scanner.specs.Answers.{begunNumber}
+use Rattle.scanner.specs.Answers.{begun_number}
 use Rattle.scanner.specs.Passing.{too_small}
 use Rattle.scanner.specs.Exact.{BeginEnd, begin_of}
 use Rattle.scanner.specs.declared.Begun.{Begun}
 use Rattle.scanner.specs.declared.Begun.TheVariants as begun
-use Rattle.scanner.specs.contracts.Begun.{the_type}
 use Rattle.scanner.proofs.Passing.{whole}
 use Rattle.scanner.proofs.Cases.{begin_small}
 use Rattle.listing.specs.Lines.{book_line, refused_line}
 use Rattle.listing.specs.Writing.{Left, left, with_line}
-use Rattle.lines.specs.Answers.{openedEnd}
+use Rattle.lines.specs.Answers.{opened_end}
 use Rattle.lines.specs.declared.answers.Opened.TheVariants as opened
 use Rattle.lines.proofs.Ends.{line_inside}
 use Rattle.parts.specs.Exact.{OpenEnd, ready_with, ready_as, begun_of, refused_answer, refused_with, opened_as, open_of}
@@ -34,11 +31,11 @@ use Rattle.parts.specs.Exact.{OpenEnd, ready_with, ready_as, begun_of, refused_a
 
 -- Tables that begin takes are as long as published.
 pub begun_whole : (t m : List ℕ) (end : BeginEnd) → end ≡ begin_of t m → end.answer ≡ begun.Done → Whole t
-unfolding begunNumber
+unfolding begun_number
 begun_whole t m end is done = go (too_small t m) refl
   where
     go : (v : Bool) → too_small t m ≡ v → Whole t
-    go true small = absurd (omega (arith, ap begunNumber (sym done ∙ ap (λ (e : BeginEnd). e.answer) (is ∙ begin_small t m small))))
+    go true small = absurd (omega (arith, ap begun_number (sym done ∙ ap (λ (e : BeginEnd). e.answer) (is ∙ begin_small t m small))))
     go false large = (whole t m large).0
 
 module _ (t m out : List ℕ) (offset : ℕ) (end : BeginEnd) (is : end ≡ begin_of t m) where
@@ -49,17 +46,12 @@ module _ (t m out : List ℕ) (offset : ℕ) (end : BeginEnd) (is : end ≡ begi
       ap (λ (a : Begun). ready_as a t end.memory out offset) (sym e)
       ∙ ap (λ (b : BeginEnd). ready_as b.answer t b.memory out offset) is
 
-  -- A refusal: the answers with these tags are the two others.
-  pub begun_refused : OneOf (1 ∷ 2 ∷ []) (tag_of the_type end.answer)
+  -- A refusal is one of the two other answers.
+  pub begun_refused : (end.answer ≡ begun.TooSmall) ⊎ (end.answer ≡ begun.NotPassed)
       → record { answer = opened.Refused 0; tables = t; running = end.memory; out = out } ≡ begun_of t m out offset
   unfolding ready_as
-  begun_refused tags = go end.answer refl (⊎_elim (λ e. omega (arith, e)) (λ e. omega (arith, e)) tags)
-    where
-      go : (answer : Begun) → end.answer ≡ answer → 0 < tag_of the_type answer
-          → record { answer = opened.Refused 0; tables = t; running = end.memory; out = out } ≡ begun_of t m out offset
-      go begun.Done e tag = absurd (omega arith)
-      go begun.TooSmall e tag = begun_as begun.TooSmall e
-      go begun.NotPassed e tag = begun_as begun.NotPassed e
+  begun_refused (inl small) = begun_as begun.TooSmall small
+  begun_refused (inr other) = begun_as begun.NotPassed other
 
   pub begun_ready : end.answer ≡ begun.Done → (after : List ℕ) (r : ℕ) → left after r ≡ with_line out 0 (book_line 0 offset (phrase_count_in t))
       → record { answer = opened.Ready r; tables = t; running = end.memory; out = after } ≡ begun_of t m out offset
@@ -71,9 +63,9 @@ module _ (t m out : List ℕ) (offset : ℕ) (end : BeginEnd) (is : end ≡ begi
 
 -- What build answers and leaves decides.
 pub opened_by : (book t m out : List ℕ) (answer : Built) (after : List ℕ) → outcome answer after ≡ build_of book t
-    → opened_as (saidBy answer) after m out ≡ open_of book t m out
+    → opened_as (said_by answer) after m out ≡ open_of book t m out
 unfolding open_of
-opened_by book t m out answer after is = ap (λ (o : Outcome). opened_as (saidBy o.answer) o.tables m out) is
+opened_by book t m out answer after is = ap (λ (o : Outcome). opened_as (said_by o.answer) o.tables m out) is
 
 module _ (number offset : ℕ) (t m out : List ℕ) where
   pub refused_is : (number ≡ 0 → ⊥) → opened_as (said number offset) t m out ≡ refused_with (said number offset) t m out
@@ -85,8 +77,8 @@ module _ (number offset : ℕ) (t m out : List ℕ) where
   taken_is none = rw (eq-eqb number 0 none)
 
 module _ (book t m out : List ℕ) (answer : Built) (after : List ℕ) (is : outcome answer after ≡ build_of book t)
-    (number offset : ℕ) (counted : number ≡ (saidBy answer).number) (found : offset ≡ (saidBy answer).offset) where
-  says : said number offset ≡ saidBy answer
+    (number offset : ℕ) (counted : number ≡ (said_by answer).number) (found : offset ≡ (said_by answer).offset) where
+  says : said number offset ≡ said_by answer
   says = ap₂ said counted found
 
   opened_is : opened_as (said number offset) after m out ≡ open_of book t m out
@@ -104,21 +96,21 @@ module _ (book t m out : List ℕ) (answer : Built) (after : List ℕ) (is : out
 
 -- ── The line of the book ends inside the buffer ──
 
-ready_inside : (answer : Begun) (t m out : List ℕ) (offset : ℕ) → openedEnd (ready_as answer t m out offset).answer ≤ length out
-unfolding ready_as ready_with openedEnd
+ready_inside : (answer : Begun) (t m out : List ℕ) (offset : ℕ) → opened_end (ready_as answer t m out offset).answer ≤ length out
+unfolding ready_as ready_with opened_end
 ready_inside begun.Done t m out offset = (line_inside out 0 (book_line 0 offset (phrase_count_in t)) (omega arith)).inside
 ready_inside begun.TooSmall t m out offset = omega arith
 ready_inside begun.NotPassed t m out offset = omega arith
 
-as_inside : (says : Said) (t m out : List ℕ) → openedEnd (opened_as says t m out).answer ≤ length out
-unfolding opened_as refused_with begun_of openedEnd
+as_inside : (says : Said) (t m out : List ℕ) → opened_end (opened_as says t m out).answer ≤ length out
+unfolding opened_as refused_with begun_of opened_end
 as_inside says t m out = go (eqb says.number 0)
   where
-    go : (v : Bool) → openedEnd (cond v (begun_of t m out says.offset) (refused_with says t m out)).answer ≤ length out
+    go : (v : Bool) → opened_end (cond v (begun_of t m out says.offset) (refused_with says t m out)).answer ≤ length out
     go true = ready_inside (begin_of t m).answer t (begin_of t m).memory out says.offset
     go false = (line_inside out 0 (refused_line says.number says.offset) (omega arith)).inside
 
-pub open_inside : (book t m out : List ℕ) (end : OpenEnd) → end ≡ open_of book t m out → openedEnd end.answer ≤ length out
+pub open_inside : (book t m out : List ℕ) (end : OpenEnd) → end ≡ open_of book t m out → opened_end end.answer ≤ length out
 unfolding open_of
 open_inside book t m out end is =
-    subst (λ (e : OpenEnd). openedEnd e.answer ≤ length out) (sym is) (as_inside (saidBy (build_of book t).answer) (build_of book t).tables m out)
+    subst (λ (e : OpenEnd). opened_end e.answer ≤ length out) (sym is) (as_inside (said_by (build_of book t).answer) (build_of book t).tables m out)

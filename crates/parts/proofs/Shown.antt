@@ -20,7 +20,7 @@ use Rattle.scanner.specs.Meant.{TablesOf}
 use Rattle.listing.specs.Lines.{hit_line, longest_line}
 use Rattle.listing.specs.Writing.{left}
 use Rattle.listing.specs.Listing.{rights_of, hit_lines}
-use Rattle.listing.proofs.Whole.{line-fits}
+use Rattle.listing.proofs.Whole.{line_fits}
 use Rattle.listing.proofs.Lengths.{hit_line_most}
 use Rattle.lines.specs.Hits.{number_in, hit_written, hits_written}
 use Rattle.lines.proofs.Codes.{codes_right, code_fits}
@@ -67,7 +67,7 @@ module _ (book : Book) (t : List ℕ) (tables : TablesOf book t) where
   one_shown report shows room out i at its where-it-is fits =
       let number : number_in room i ≡ report.number = omega (arith, its, shows.number) in
       rw (number, where-it-is, codes_right book tables.limits t tables.laid report.number)
-      (line-fits out at (line_of report) (omega (arith, line_most report shows)))
+      (line_fits out at (line_of report) (omega (arith, line_most report shows)))
 
   pub hits_shown : (hits : List Report) → All Shows hits → (room out : List ℕ) (i at : ℕ)
       → ((k : ℕ) → k < 2 * length hits → get_or room (2 * i + k) 0 ≡ get_or (in_room hits) k 0)

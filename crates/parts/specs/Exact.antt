@@ -1,7 +1,7 @@
 -- What each function answers and leaves, for all that it can be lent. Assumes nothing: these are definitions.
 use Rattle.std.specs.Prelude.{cond, List, ℕ, eqb}
 use Rattle.tables.specs.Reads.{phrase_count_in}
-use Rattle.builder.specs.Answers.{Said, saidBy}
+use Rattle.builder.specs.Answers.{Said, said_by}
 use Rattle.builder.specs.Build.{build_of}
 use Rattle.scanner.specs.Exact.{begin_of, FeedEnd, feed_of}
 use Rattle.scanner.specs.declared.Begun.{Begun}
@@ -57,7 +57,7 @@ opened_as says t m out = cond (eqb says.number 0) (begun_of t m out says.offset)
 
 -- The book is built, and the letter begun.
 unfoldable pub open_of : List ℕ → List ℕ → List ℕ → List ℕ → OpenEnd
-open_of book t m out = opened_as (saidBy (build_of book t).answer) (build_of book t).tables m out
+open_of book t m out = opened_as (said_by (build_of book t).answer) (build_of book t).tables m out
 
 -- ── A part ──
 

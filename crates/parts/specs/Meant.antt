@@ -8,7 +8,7 @@ use Rattle.format.specs.Judged.{Judgement, accepted, refused}
 use Rattle.scanner.specs.Meant.{TablesOf, RunningOf}
 use Rattle.listing.specs.Lines.{book_line, refused_line, longest_line}
 use Rattle.listing.specs.Listing.{hit_lines}
-use Rattle.lines.specs.Answers.{openedEnd, listedEnd}
+use Rattle.lines.specs.Answers.{opened_end, listed_end}
 use Rattle.lines.specs.declared.answers.Opened.TheVariants as opened
 use Rattle.lines.specs.declared.answers.Listed.TheVariants as listed
 use Rattle.parts.specs.Exact.{OpenEnd, ListEnd}
@@ -16,24 +16,24 @@ use Rattle.parts.specs.Exact.{OpenEnd, ListEnd}
 -- ── What the caller passes on: the bytes up to where the lines end ──
 
 abbrev pub opened_text : OpenEnd → List ℕ
-opened_text end = take (openedEnd end.answer) end.out
+opened_text end = take (opened_end end.answer) end.out
 
 abbrev pub listed_text : ListEnd → List ℕ
-listed_text end = take (listedEnd end.answer) end.out
+listed_text end = take (listed_end end.answer) end.out
 
 -- ── The book ──
 
 -- An accepted book is ready: the lent memory is the book's before the first byte, and the line has build's number, which is 0, its offset,
 -- and the phrases.
 pub record BookReady (book : Book) (offset : ℕ) (out : List ℕ) (end : OpenEnd) : Type 0 where
-  pub ready : end.answer ≡ opened.Ready (openedEnd end.answer)
+  pub ready : end.answer ≡ opened.Ready (opened_end end.answer)
   pub tables : TablesOf book end.tables
   pub running : RunningOf book [] end.running
   pub text : longest_line ≤ length out → opened_text end ≡ book_line 0 offset (length book.phrases)
 
 -- Of a refused book the line has the number and the offset.
 pub record BookRefused (why : Refusal) (offset : ℕ) (out : List ℕ) (end : OpenEnd) : Type 0 where
-  pub not_ready : end.answer ≡ opened.Refused (openedEnd end.answer)
+  pub not_ready : end.answer ≡ opened.Refused (opened_end end.answer)
   pub text : longest_line ≤ length out → opened_text end ≡ refused_line (refusal_number why) offset
 
 -- What a judgement of the book leads to.
@@ -57,7 +57,7 @@ pub record ListTook (book : Book) (x part room out : List ℕ) (taken : ℕ) (en
   pub offered : taken ≤ length part
   pub says
       : end.answer
-      ≡ listed.Took taken (length (reports_after book x (take taken part))) (steps_after book x (take taken part)) (listedEnd end.answer)
+      ≡ listed.Took taken (length (reports_after book x (take taken part))) (steps_after book x (take taken part)) (listed_end end.answer)
   pub memory : RunningOf book (x ++ take taken part) end.running
   pub text : longest_line * (length room / 2) ≤ length out → listed_text end ≡ hit_lines book (reports_after book x (take taken part))
 

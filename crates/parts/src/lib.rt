@@ -1,8 +1,10 @@
 // The listing in lent buffers: the book is opened, and the parts of the letter are listed one after the other; crate `lines` has the last
 // lines. Each function writes its lines at the start of `out` and answers where they end; the caller passes these bytes on before the next
 // call.
+#![tactic(auto)]
+
 ghost use Rattle.std.specs.Prelude.{◌≡◌, ◌≤◌, length};
-ghost use Rattle.lines.specs.Answers.{openedEnd, listedTaken, listedEnd};
+ghost use Rattle.lines.specs.Answers.{opened_end, listed_taken, listed_end};
 ghost use Rattle.parts.specs.Exact.{begun_of};
 ghost use Rattle.parts.specs.Promised.{OpenPromise, ListPromise};
 
@@ -14,7 +16,7 @@ use scanner::{Begun, Fed, begin, feed};
 // Builds the tables of a book, begins the letter, and writes the line of the book.
 pub fn open_book(book: &[u8], tables: &mut [u8], running: &mut [u8], out: &mut [u8]) -> Opened
     ensures open_promise { OpenPromise book.now tables.old running.old out.old (record { answer = result; tables = tables.new; running = running.new; out = out.new }) }
-    ensures result_in_bounds { openedEnd result ≤ length out.old }
+    ensures result_in_bounds { opened_end result ≤ length out.old }
 {
     let built = build(book, tables);
     let number = lent::wide64(built.number());
@@ -55,7 +57,7 @@ pub fn list_part(
     out: &mut [u8],
 ) -> Listed
     ensures list_promise { ListPromise tables.now running.old part.now room.old out.old (record { answer = result; running = running.new; room = room.new; out = out.new }) }
-    ensures result_in_bounds { (listedTaken result ≤ length part.now) × (listedEnd result ≤ length out.old) }
+    ensures result_in_bounds { (listed_taken result ≤ length part.now) × (listed_end result ≤ length out.old) }
 {
     let fed = feed(tables, running, part, room);
     match fed {

@@ -17,7 +17,7 @@ use Rattle.format.specs.Limits.{most_phrases}
 use Rattle.scanner.specs.Meant.{TablesOf, RunningOf}
 use Rattle.listing.specs.Lines.{longest_line}
 use Rattle.listing.specs.Listing.{hit_lines}
-use Rattle.lines.specs.Answers.{listedTaken, listedHits, listedSteps}
+use Rattle.lines.specs.Answers.{listed_taken, listed_hits, listed_steps}
 use Rattle.lines.specs.declared.answers.Listed.{Listed}
 use Rattle.lines.specs.declared.answers.Listed.TheVariants as listed
 use Rattle.parts.specs.Exact.{ListEnd, list_of}
@@ -77,15 +77,15 @@ module _ (book : Book) (tables letter : List ℕ) (lent : ℕ → Lent) (last : 
       y_long = length-take-le taken part took.offered
 
       next_stands : Stands book (x ++ y) end.running (totals_with totals end.answer)
-      unfolding totals_with added listedTaken listedHits listedSteps
+      unfolding totals_with added listed_taken listed_hits listed_steps
       next_stands =
           let both = length-append x y in
           let cut = ap length (reports_cut book x y) ∙ length-append (reports book x) (reports_after book x y) in
           record {
             running = took.memory;
-            taken = omega (arith, stands.taken, ap listedTaken took.says, y_long, both, took.offered);
-            hits = omega (arith, stands.hits, ap listedHits took.says, cut, reports_few book held.limits (x ++ y), y_long, both, took.offered);
-            steps = omega (arith, stands.steps, ap listedSteps took.says, steps_cut book x y, steps_at_most book (x ++ y), y_long, both, took.offered);
+            taken = omega (arith, stands.taken, ap listed_taken took.says, y_long, both, took.offered);
+            hits = omega (arith, stands.hits, ap listed_hits took.says, cut, reports_few book held.limits (x ++ y), y_long, both, took.offered);
+            steps = omega (arith, stands.steps, ap listed_steps took.says, steps_cut book x y, steps_at_most book (x ++ y), y_long, both, took.offered);
           }
 
       turn_text : turns_from tables letter lent last (suc more) turn m totals ≡ hit_lines book (reports_after book x y) ++ later end

@@ -5,7 +5,7 @@ use Rattle.tables.specs.Layout.{tables_size}
 use Rattle.running.specs.Layout.{running_size}
 use Rattle.listing.specs.Lines.{longest_line}
 use Rattle.listing.specs.Listing.{part_length}
-use Rattle.lines.specs.Answers.{listedTaken, listedHits, listedSteps}
+use Rattle.lines.specs.Answers.{listed_taken, listed_hits, listed_steps}
 use Rattle.lines.specs.Last.{text_of, last_of, too_long_of}
 use Rattle.lines.specs.declared.answers.Opened.{Opened}
 use Rattle.lines.specs.declared.answers.Opened.TheVariants as opened
@@ -36,9 +36,9 @@ added count more = (count + more) % 18446744073709551616
 -- After one call more.
 unfoldable pub totals_with : Totals → Listed → Totals
 totals_with totals answer = record {
-  taken = added totals.taken (listedTaken answer);
-  hits = added totals.hits (listedHits answer);
-  steps = added totals.steps (listedSteps answer);
+  taken = added totals.taken (listed_taken answer);
+  hits = added totals.hits (listed_hits answer);
+  steps = added totals.steps (listed_steps answer);
 }
 
 -- ── The turns ──
