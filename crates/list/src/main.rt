@@ -1,6 +1,6 @@
 // Lists standard input, a book with its length in front and then the letter, on standard output.
-use libc::{STDERR_FILENO, STDIN_FILENO, STDOUT_FILENO};
+#![tactic(auto)]
 
-fn main() {
-    stream::list(STDIN_FILENO, STDOUT_FILENO, STDERR_FILENO);
+fn main(rt: HostRuntime) {
+    stream::list(&mut rt.stdin(), &mut rt.stdout(), &mut rt.stderr());
 }

@@ -1,3 +1,3 @@
 pub mod Within
 pub mod Taken
-pub mod Came
+pub mod BookWithin

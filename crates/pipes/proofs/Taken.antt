@@ -1,7 +1,7 @@
 -- After a call that takes bytes, these are used; and they were left before it. Assumes nothing.
 use Rattle.std.proofs.Common.{◌≡◌, ℕ, ◌+◌, ◌%◌, ◌^◌, ◌≤◌, Bool, true, false, cond, eqb, refl, inl, inr, ⊎_elim, arith, ne_eqb}
 use borrow.Author.Tests.{eqb-false}
-use Rattle.lines.specs.Answers.{listedTaken}
+use Rattle.lines.specs.Answers.{listed_taken}
 use Rattle.lines.specs.declared.answers.Listed.{Listed}
 use Rattle.lines.specs.declared.answers.Listed.TheVariants as listed
 use Rattle.pipes.specs.declared.letter.Totals.{Totals}
@@ -37,8 +37,8 @@ module _ (standing : Standing) (taken hits steps : ℕ) where
       go true e = inr (inr refl)
       go false e = (omega (arith, eqb-false taken 0 e), omega arith, refl)
 
-pub after_within : (standing : Standing) (call : Listed) (next : Turn) → standing.used + listedTaken call ≤ standing.size → AfterCall call standing next → TurnWithin standing next
-unfolding listedTaken
+pub after_within : (standing : Standing) (call : Listed) (next : Turn) → standing.used + listed_taken call ≤ standing.size → AfterCall call standing next → TurnWithin standing next
+unfolding listed_taken
 after_within standing (listed.Took taken hits steps end) next left = ⊎_elim (λ e. rw e (taken_within standing taken hits steps left)) (λ e. rw e (inr (inl refl)))
 after_within standing listed.TooLong next left = ⊎_elim (λ e. rw e (inl refl)) (λ e. rw e (inr (inl refl)))
 after_within standing listed.NotTaken next left = λ e. rw e (inr (inr refl))

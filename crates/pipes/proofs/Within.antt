@@ -1,6 +1,6 @@
 -- What the next bytes of a letter are lies in the buffer, and after a turn they lie where they lay: by cases of whether the listing goes on.
 -- Assumes nothing.
-use Rattle.std.proofs.Common.{◌≡◌, ℕ, ◌<◌, ◌≤◌, Bool, true, false, eqb, ltb, ◌⊎◌, List, length, sym, refl, subst, ⊎_elim, arith, ltb-true}
+use Rattle.std.proofs.Common.{◌≡◌, ℕ, ◌<◌, ◌≤◌, Bool, true, false, eqb, ltb, List, length, refl, subst, ⊎_elim, arith, ltb-true}
 use borrow.Author.Tests.{eqb-false}
 use Rattle.lines.specs.declared.answers.Opened.{Opened}
 use Rattle.lines.specs.declared.answers.Opened.TheVariants as opened
@@ -10,18 +10,13 @@ use Rattle.pipes.specs.declared.letter.Totals.{Totals}
 use Rattle.pipes.specs.declared.letter.Standing.{Standing}
 use Rattle.pipes.specs.declared.letter.Turn.{Turn}
 use Rattle.pipes.specs.declared.letter.Turn.TheVariants as turn
-use Rattle.pipes.specs.declared.Ran.TheVariants as ran
 use Rattle.pipes.specs.Reading.{Fits}
-use Rattle.pipes.specs.Letter.{OrNotWritten, Started, unused, unread, PartInside, LastPart, PartOf, NextPart, NextBytes, Next, TurnWithin}
+use Rattle.pipes.specs.Letter.{Started, unused, unread, PartInside, LastPart, PartOf, NextPart, NextBytes, Next, TurnWithin}
 
 pub started_inside : (book : Opened) (more : Bool) (first : Turn) → Started book more first → PartInside first 0
 unfolding unread unused
 started_inside (opened.Ready end) more first = ⊎_elim (λ e. rw e (omega arith)) (λ e. rw e tt)
 started_inside (opened.Refused end) more first = ⊎_elim (λ e. rw e tt) (λ e. rw e tt)
-
-pub part_wider : (t : Turn) (size room : ℕ) → size ≤ room → PartInside t size → PartInside t room
-part_wider (turn.On standing) size room wider inside = omega arith
-part_wider (turn.Over told) size room wider inside = tt
 
 -- A listing that goes on has bytes to offer, which lie in the buffer.
 abbrev pub Offers : Turn → ℕ → Type 0

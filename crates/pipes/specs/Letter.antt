@@ -1,4 +1,4 @@
--- What the letter's turns answer, except for what only the descriptors know: whether a write was taken, a read failed, and how many bytes it brought.
+-- What the letter's turns answer, except for what only the reader and the writer know: whether a write was taken, a read failed, and how many bytes it brought.
 -- Assumes nothing: these are definitions.
 use Rattle.std.specs.Prelude.{◌≡◌, ℕ, ◌+◌, ◌%◌, ◌^◌, ◌<◌, ◌≤◌, Bool, true, false, cond, ◌⊎◌, List, length, ◌==◌, nat_lt}
 use Rattle.lines.specs.declared.answers.Opened.{Opened}

@@ -10,6 +10,6 @@ Fits brought.Full size = Unit {0}
 Fits (brought.Ended count) size = count < size
 Fits brought.Failed size = Unit {0}
 
--- What a read to a buffer of so many bytes brought only the descriptor knows; but it fits, and the answer is the one for it.
+-- What a read to a buffer of so many bytes brought only the reader knows; but it fits, and the answer is the one for it.
 abbrev pub ReadTo : ℕ → (Brought → Type 0) → Type 0
 ReadTo size Answered = (brought : Brought) × (Fits brought size × Answered brought)

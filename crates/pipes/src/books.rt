@@ -5,11 +5,12 @@ ghost use Rattle.pipes.specs.Books.{book_of, SizedBook, whole_of};
 
 use crate::Ran;
 use crate::reading::{Brought, fill};
+use std::io::Read;
 
 const LENGTH_BYTES: usize = 2;
 
 // What came of a book.
-#[derive(Drop)]
+#[derive(Clone, Copy)]
 pub enum Came {
     // so many bytes, and whether input may follow them
     Book { size: usize, more: bool },
@@ -19,7 +20,7 @@ pub enum Came {
 
 // Two bytes of book length, high byte first, and the book. Where the input ends early, the book is what came, and empty if its length is
 // cut.
-pub fn sized_book(from: i32, book: &mut [u8]) -> Came
+pub fn sized_book<R: Read>(from: &mut R, book: &mut [u8]) -> Came
     requires { 65535 ≤ length book.old }
     ensures { ReadTo 2 (λ b. SizedBook b result) }
 {
@@ -30,7 +31,7 @@ pub fn sized_book(from: i32, book: &mut [u8]) -> Came
 }
 
 // The book behind its length, if that came.
-fn book_behind(told: Brought, size: usize, from: i32, book: &mut [u8]) -> Came
+fn book_behind<R: Read>(told: Brought, size: usize, from: &mut R, book: &mut [u8]) -> Came
     requires { (size ≤ 65535) × (size ≤ length book.old) }
     ensures { SizedBook told result }
 {
@@ -66,8 +67,8 @@ fn book_of(brought: Brought, size: usize) -> Came
     }
 }
 
-// The book that a descriptor brings to its end; the letter comes from another one.
-pub fn whole_book(from: i32, book: &mut [u8]) -> Came
+// The book that a reader brings to its end; the letter comes from another one.
+pub fn whole_book<R: Read>(from: &mut R, book: &mut [u8]) -> Came
     ensures { ReadTo (length book.old) (λ b. result ≡ whole_of b) }
 {
     whole_of(fill(from, book))

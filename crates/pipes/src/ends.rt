@@ -1,4 +1,4 @@
-// Lines written to a descriptor, and the last ones of a listing.
+// Lines written to a writer, and the last ones of a listing.
 ghost use Rattle.pipes.specs.declared.Ran.TheVariants as ran;
 ghost use Rattle.pipes.specs.declared.letter.Turn.TheVariants as turn;
 ghost use Rattle.pipes.specs.Letter.{OrNotWritten};
@@ -7,12 +7,13 @@ use crate::Ran;
 use crate::letter::{Totals, Turn};
 use counters::Place;
 use listing::LONGEST_LINE;
+use std::io::Write;
 
 // At most two lines end a listing.
 const LAST_LINES: usize = 2 * LONGEST_LINE;
 
 // The end line and what follows it.
-pub(crate) fn write_end(totals: Totals, to: i32) -> Turn
+pub(crate) fn write_end<W: Write>(totals: Totals, to: &mut W) -> Turn
     ensures { OrNotWritten (turn.Over ran.Listed) result }
 {
     let mut lines = [0u8; LAST_LINES];
@@ -26,7 +27,7 @@ pub(crate) fn write_end(totals: Totals, to: i32) -> Turn
 }
 
 // The line of a letter that was refused with 11, in place of the end line.
-pub(crate) fn write_too_long(totals: Totals, to: i32) -> Turn
+pub(crate) fn write_too_long<W: Write>(totals: Totals, to: &mut W) -> Turn
     ensures { OrNotWritten (turn.Over ran.LetterRefused) result }
 {
     let mut lines = [0u8; LAST_LINES];
@@ -41,13 +42,26 @@ pub(crate) fn write_too_long(totals: Totals, to: i32) -> Turn
 }
 
 // The answer once the lines are written.
-pub(crate) fn written(answer: Turn, lines: &[u8], to: i32) -> Turn
+pub(crate) fn written<W: Write>(answer: Turn, lines: &[u8], to: &mut W) -> Turn
     ensures { OrNotWritten answer result }
 {
-    if !io::write_all(to, lines) {
+    if !write_whole(lines, to) {
         return Turn::Over {
             ran: Ran::NotWritten,
         };
     }
     answer
+}
+
+// Writes all the bytes, straight from where they stand, or stops at the first write that takes none or fails.
+pub(crate) fn write_whole<W: Write>(bytes: &[u8], to: &mut W) -> bool {
+    let mut done = 0;
+    while done < bytes.len() {
+        match to.write(&bytes[done..]) {
+            Ok(0) => return false,
+            Ok(count) => done += count,
+            Err(_) => return false,
+        }
+    }
+    true
 }

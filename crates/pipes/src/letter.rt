@@ -1,15 +1,16 @@
 // The letter, part after part in one buffer: a part is used up, and its lines are written, before the next is read.
 ghost use Rattle.std.specs.Prelude.{◌≡◌, ◌+◌, ◌<◌, ◌≤◌, length};
-ghost use Rattle.lines.specs.Answers.{openedEnd, listedTaken, listedEnd};
+ghost use Rattle.lines.specs.Answers.{opened_end, listed_taken, listed_end};
 ghost use Rattle.pipes.specs.Letter.{PartInside, Started, Next, PartOf, after_bytes, AfterCall};
 
 use crate::Ran;
 use crate::ends::{write_end, write_too_long, written};
 use crate::reading::{Brought, fill};
 use lines::{Listed, Opened};
+use std::io::{Read, Write};
 
 // What a letter has come to so far.
-#[derive(Drop)]
+#[derive(Clone, Copy)]
 pub struct Totals {
     pub taken: u64,
     pub hits: u64,
@@ -18,7 +19,7 @@ pub struct Totals {
 
 // Where a letter stands: the part that was read last has `size` bytes, of which `used` are used; whether input may follow it; and what the
 // letter has come to.
-#[derive(Drop)]
+#[derive(Clone, Copy)]
 pub struct Standing {
     pub size: usize,
     pub used: usize,
@@ -27,7 +28,7 @@ pub struct Standing {
 }
 
 // Whether a listing goes on.
-#[derive(Drop)]
+#[derive(Clone, Copy)]
 pub enum Turn {
     // it does, from where the letter stands
     On { standing: Standing },
@@ -36,8 +37,8 @@ pub enum Turn {
 }
 
 // The letter begins where the book is ready, once the line of the book is written.
-pub fn start(opened: Opened, line: &[u8], more: bool, to: i32) -> Turn
-    requires { openedEnd opened ≤ length line.now }
+pub fn start<W: Write>(opened: Opened, line: &[u8], more: bool, to: &mut W) -> Turn
+    requires { opened_end opened ≤ length line.now }
     ensures { Started opened more result }
 {
     match opened {
@@ -67,7 +68,7 @@ pub fn start(opened: Opened, line: &[u8], more: bool, to: i32) -> Turn
 
 // The next bytes of the letter. While some of a part are left, nothing is read; once all are used, the next part is; and where no input
 // follows, the end line is written.
-pub fn next(turn: Turn, part: &mut [u8], from: i32, to: i32) -> Turn
+pub fn next<R: Read, W: Write>(turn: Turn, part: &mut [u8], from: &mut R, to: &mut W) -> Turn
     requires { (0 < length part.old) × PartInside turn (length part.old) }
     ensures { Next turn part.old result part.new }
 {
@@ -87,7 +88,7 @@ pub fn next(turn: Turn, part: &mut [u8], from: i32, to: i32) -> Turn
 }
 
 // What a read brought, as the next part. The last one is shorter; where it has no byte, the letter ended with the part before.
-fn part_of(brought: Brought, room: usize, totals: Totals, to: i32) -> Turn
+fn part_of<W: Write>(brought: Brought, room: usize, totals: Totals, to: &mut W) -> Turn
     ensures { PartOf room totals brought result }
 {
     match brought {
@@ -119,8 +120,8 @@ fn part_of(brought: Brought, room: usize, totals: Totals, to: i32) -> Turn
 }
 
 // What a call on the rest of a part leads to. Its lines are written before anything else is done.
-pub fn after(listed: Listed, lines: &[u8], standing: Standing, to: i32) -> Turn
-    requires { (standing.used + listedTaken listed ≤ standing.size) × (listedEnd listed ≤ length lines.now) }
+pub fn after<W: Write>(listed: Listed, lines: &[u8], standing: Standing, to: &mut W) -> Turn
+    requires { (standing.used + listed_taken listed ≤ standing.size) × (listed_end listed ≤ length lines.now) }
     ensures { AfterCall listed standing result }
 {
     match listed {
@@ -151,9 +152,9 @@ fn took(standing: Standing, taken: usize, hits: usize, steps: u64) -> Turn
             used: standing.used + taken,
             more: standing.more,
             totals: Totals {
-                taken: std::num::wrapping_add_u64(totals.taken, lent::size64(taken)),
-                hits: std::num::wrapping_add_u64(totals.hits, lent::size64(hits)),
-                steps: std::num::wrapping_add_u64(totals.steps, steps),
+                taken: totals.taken.wrapping_add(lent::size64(taken)),
+                hits: totals.hits.wrapping_add(lent::size64(hits)),
+                steps: totals.steps.wrapping_add(steps),
             },
         },
     }

@@ -1,5 +1,7 @@
-// Bytes between descriptors and lent memory: a book and the parts of a letter are read, lines are written, and it is said how a listing
+// Bytes between readers, writers and lent memory: a book and the parts of a letter are read, lines are written, and it is said how a listing
 // ended. What is listed is decided elsewhere; a failed read or write ends the listing.
+#![tactic(auto)]
+
 mod books;
 mod ends;
 mod letter;
@@ -12,7 +14,7 @@ pub use reading::Brought;
 pub use words::say;
 
 // How a listing ended: what the caller is told, since what was read and written no contract can say.
-#[derive(Drop)]
+#[derive(Clone, Copy)]
 pub enum Ran {
     // the letter was read to its end, and the end line is written
     Listed,

@@ -1,9 +1,11 @@
-// Reading from a descriptor: short reads are joined, and the end of the input and a failed read are told apart.
+// Reading from a reader: short reads are joined, and the end of the input and a failed read are told apart.
 ghost use Rattle.std.specs.Prelude.{length};
 ghost use Rattle.pipes.specs.Reading.{Fits};
 
+use std::io::Read;
+
 // What a joined read brought; the contracts of the calls that read speak of it.
-#[derive(Drop)]
+#[derive(Clone, Copy)]
 pub enum Brought {
     // the buffer is full; more may follow
     Full,
@@ -13,22 +15,18 @@ pub enum Brought {
     Failed,
 }
 
-// Reads until the buffer is full or the input ends. Any read that answers a negative number has failed; a read that a signal breaks
-// off is one, since the reason cannot be asked here.
-pub(crate) fn fill(from: i32, buffer: &mut [u8]) -> Brought
+// Reads until the buffer is full or the input ends, straight into it. Any read that answers an error has failed; a read that a signal
+// breaks off is one.
+pub(crate) fn fill<R: Read>(from: &mut R, buffer: &mut [u8]) -> Brought
     ensures { Fits result (length buffer.old) }
 {
     let mut have = 0;
     while have < buffer.len() {
-        let got = libc::read(from, &mut buffer[have..]);
-        if got < 0 {
-            return Brought::Failed;
+        match from.read(&mut buffer[have..]) {
+            Ok(0) => return Brought::Ended { count: have },
+            Ok(count) => have += count,
+            Err(_) => return Brought::Failed,
         }
-        let count = io::count(got, &buffer[have..]);
-        if count == 0 {
-            return Brought::Ended { count: have };
-        }
-        have += count;
     }
     Brought::Full
 }

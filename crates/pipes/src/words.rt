@@ -1,8 +1,10 @@
 // How a listing ended, in a sentence for whoever reads it.
 use crate::Ran;
+use crate::ends::write_whole;
+use std::io::Write;
 
 // Writes the sentence of a listing's end. The commands in bin/ tell by it how to end themselves, for a program has no status of its own.
-pub fn say(ran: Ran, to: i32) {
+pub fn say<W: Write>(ran: Ran, to: &mut W) {
     match ran {
         Ran::Listed => text(to, b"the letter is listed to its end\n"),
         Ran::BookRefused => text(to, b"the book is refused, and the letter was not read\n"),
@@ -30,6 +32,6 @@ pub fn say(ran: Ran, to: i32) {
     }
 }
 
-fn text(to: i32, sentence: &[u8]) {
-    io::write_all(to, sentence);
+fn text<W: Write>(to: &mut W, sentence: &[u8]) {
+    write_whole(sentence, to);
 }

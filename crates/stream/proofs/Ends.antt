@@ -1,15 +1,11 @@
 -- How a listing can end is known from turn to turn: what its first turn was decides. By cases of whether the listing goes on. Assumes nothing.
-use mathlib.Core.Path.{◌≡◌, refl, sym, ap, subst, ◌∙◌}
+use mathlib.Core.Path.{◌≡◌, refl, sym, subst, ◌∙◌}
 use mathlib.Core.Bool.{Bool, true, false}
 use mathlib.Core.List.{List}
 use mathlib.Core.Logic.{⊎_elim, inl, inr}
-use Prim.Native.Nat.{ℕ, ◌<◌}
-use native.Mathlib.Omega.{arith}
+use Prim.Native.Nat.{ℕ}
 use lib.Dec.{eqb, ltb}
 use lib.ListN.{length}
-use Rattle.lines.specs.declared.answers.Opened.{Opened}
-use Rattle.lines.specs.declared.answers.Opened.TheVariants as opened
-use Rattle.pipes.specs.declared.Ran.{Ran}
 use Rattle.pipes.specs.declared.Ran.TheVariants as ran
 use Rattle.pipes.specs.declared.reading.Brought.{Brought}
 use Rattle.pipes.specs.declared.reading.Brought.TheVariants as brought
@@ -17,18 +13,14 @@ use Rattle.pipes.specs.declared.letter.Totals.{Totals}
 use Rattle.pipes.specs.declared.letter.Standing.{Standing}
 use Rattle.pipes.specs.declared.letter.Turn.{Turn}
 use Rattle.pipes.specs.declared.letter.Turn.TheVariants as turn
-use Rattle.pipes.specs.Letter.{OrNotWritten, Started, LastPart, PartOf, NextPart, NextBytes, Next, TurnWithin}
-use Rattle.stream.specs.Ends.{LetterEnd, EndFrom, ListingEnd}
+use Rattle.pipes.specs.Letter.{OrNotWritten, LastPart, PartOf, NextPart, NextBytes, Next, TurnWithin}
+use Rattle.stream.specs.Ends.{LetterEnd}
 
 -- After so many turns: a listing that was over at first has had none, and any other is over only by an end of its letter.
 abbrev pub Reached : Turn → ℕ → Turn → Type 0
 Reached (turn.On standing) turns (turn.On now) = Unit {0}
 Reached (turn.On standing) turns (turn.Over told) = LetterEnd told
 Reached (turn.Over ended) turns now = (turns ≡ 0) × (now ≡ turn.Over ended)
-
-pub reached_first : (first : Turn) → Reached first 0 first
-reached_first (turn.On standing) = tt
-reached_first (turn.Over ended) = (refl, refl)
 
 module _ (standing : Standing) (turns : ℕ) where
   ended_reached : (next : Turn) → OrNotWritten (turn.Over ran.Listed) next → Reached (turn.On standing) turns next
@@ -57,14 +49,6 @@ next_reached (turn.On standing) turns (turn.Over told) part next after reached i
 next_reached (turn.Over ended) turns now part next after reached is =
     (reached.0, (subst (λ (t : Turn). Next t part next after) reached.1 is).0)
 
-abbrev told_of : Turn → Ran
-told_of (turn.On standing) = ran.NotTaken
-told_of (turn.Over told) = told
-
-pub end_told : (first : Turn) (turns : ℕ) (next : Turn) (told : Ran) → Reached first turns next → next ≡ turn.Over told → EndFrom first told
-end_told (turn.On standing) turns next told reached is = subst (Reached (turn.On standing) turns) is reached
-end_told (turn.Over ended) turns next told reached is = ap told_of (sym is ∙ reached.1)
-
 abbrev goes_on : Turn → Type 0
 goes_on (turn.On standing) = Unit {0}
 goes_on (turn.Over told) = ⊥
@@ -73,17 +57,3 @@ pub call_reached : (first : Turn) (turns : ℕ) (offered : Turn) (before : Stand
 call_reached (turn.On standing) turns offered before later (turn.On now) reached is within = tt
 call_reached (turn.On standing) turns offered before later (turn.Over told) reached is within = inr (inr within)
 call_reached (turn.Over ended) turns offered before later after reached is within = absurd (subst goes_on (sym is ∙ reached.1) tt)
-
-pub end_late : (first : Turn) (turns : ℕ) (now : Turn) → Reached first turns now → 0 < turns → EndFrom first ran.NotTaken
-end_late (turn.On standing) turns now reached late = inr (inr (inr (inr refl)))
-end_late (turn.Over ended) turns now reached late = absurd (omega (arith, reached.0))
-
-pub listing_end : (book : Opened) (more : Bool) (first : Turn) (told : Ran) → Started book more first → EndFrom first told → ListingEnd told
-listing_end (opened.Ready end) more first told started from = inl (⊎_elim
-    (λ e. subst (λ (t : Turn). EndFrom t told) e from)
-    (λ e. inr (inr (inr (inl (subst (λ (t : Turn). EndFrom t told) e from)))))
-    started)
-listing_end (opened.Refused end) more first told started from = ⊎_elim
-    (λ e. inr (subst (λ (t : Turn). EndFrom t told) e from))
-    (λ e. inl (inr (inr (inr (inl (subst (λ (t : Turn). EndFrom t told) e from))))))
-    started

@@ -1,3 +1,2 @@
-mod Arrays
 mod Left
 mod Ends

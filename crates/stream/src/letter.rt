@@ -5,6 +5,7 @@ ghost use Rattle.stream.specs.Ends.{EndFrom};
 
 use listing::LONGEST_LINE;
 use pipes::{Ran, Standing, Turn, after, next};
+use std::io::{Read, Write};
 
 // The bytes of a part; only the last one is shorter.
 const PART: usize = 4096;
@@ -21,7 +22,13 @@ const ROOM: usize = 2 * REPORTS;
 const LINES: usize = LONGEST_LINE * REPORTS;
 
 // Lists the letter to its end.
-pub(crate) fn list_letter(tables: &[u8], running: &mut [u8], first: Turn, from: i32, to: i32) -> Ran
+pub(crate) fn list_letter<R: Read, W: Write>(
+    tables: &[u8],
+    running: &mut [u8],
+    first: Turn,
+    from: &mut R,
+    to: &mut W,
+) -> Ran
     requires { PartInside first 0 }
     ensures { EndFrom first result }
 {
@@ -44,7 +51,13 @@ pub(crate) fn list_letter(tables: &[u8], running: &mut [u8], first: Turn, from: 
 }
 
 // One call, on what is left of the part, and the lines of its hits.
-fn list_some(tables: &[u8], running: &mut [u8], part: &[u8], standing: Standing, to: i32) -> Turn
+fn list_some<W: Write>(
+    tables: &[u8],
+    running: &mut [u8],
+    part: &[u8],
+    standing: Standing,
+    to: &mut W,
+) -> Turn
     requires { (standing.used ≤ standing.size) × (standing.size ≤ length part.now) }
     ensures { TurnWithin standing result }
 {

@@ -1,5 +1,7 @@
-// The listing over descriptors: a book and a letter are read, and the lines are written as they come, in fixed memory. Everything that
+// The listing over readers and writers: a book and a letter are read, and the lines are written as they come, in fixed memory. Everything that
 // is decided, crate `parts` decides, on slices; crate `pipes` moves the bytes; here the two take turns.
+#![tactic(auto)]
+
 ghost use Rattle.std.specs.Prelude.{length};
 ghost use Rattle.pipes.specs.Books.{CameWithin};
 ghost use Rattle.stream.specs.Ends.{ListingEnd};
@@ -7,6 +9,7 @@ ghost use Rattle.stream.specs.Ends.{ListingEnd};
 use letter::list_letter;
 use listing::LONGEST_LINE;
 use pipes::{Came, Ran, say, sized_book, start, whole_book};
+use std::io::{Read, Write};
 
 mod letter;
 
@@ -17,22 +20,33 @@ const TABLES: usize = tables::layout::SIZE;
 
 const RUNNING: usize = running::layout::SIZE;
 
-// Lists what one descriptor brings, a book with its length in front and the letter to the end, and says to `told` how the listing ended.
-pub fn list(from: i32, to: i32, told: i32) {
+// Lists what one reader brings, a book with its length in front and the letter to the end, and says to `told` how the listing ended.
+pub fn list<R: Read, W: Write, T: Write>(from: &mut R, to: &mut W, told: &mut T) {
     let mut book = [0u8; LONGEST_BOOK];
     let came = sized_book(from, &mut book);
     list_came(came, &book, from, to, told);
 }
 
-// Lists a book and a letter that come from two descriptors, each to its end, and says to `told` how the listing ended.
-pub fn list_two(book_from: i32, letter_from: i32, to: i32, told: i32) {
+// Lists a book and a letter that come from two readers, each to its end, and says to `told` how the listing ended.
+pub fn list_two<B: Read, R: Read, W: Write, T: Write>(
+    book_from: &mut B,
+    letter_from: &mut R,
+    to: &mut W,
+    told: &mut T,
+) {
     let mut book = [0u8; LONGEST_BOOK + 1];
     let came = whole_book(book_from, &mut book);
     list_came(came, &book, letter_from, to, told);
 }
 
 // The listing of a book that came, and of the letter behind it.
-fn list_came(came: Came, book: &[u8], from: i32, to: i32, told: i32)
+fn list_came<R: Read, W: Write, T: Write>(
+    came: Came,
+    book: &[u8],
+    from: &mut R,
+    to: &mut W,
+    told: &mut T,
+)
     requires { CameWithin came (length book.now) }
 {
     match came {
@@ -42,7 +56,7 @@ fn list_came(came: Came, book: &[u8], from: i32, to: i32, told: i32)
 }
 
 // Opens the book and lists the letter. Where no input follows the book, the letter is empty, and nothing more is read.
-fn list_with(book: &[u8], more: bool, from: i32, to: i32) -> Ran
+fn list_with<R: Read, W: Write>(book: &[u8], more: bool, from: &mut R, to: &mut W) -> Ran
     ensures { ListingEnd result }
 {
     let mut tables = [0u8; TABLES];

@@ -1,9 +1,9 @@
 -- A book that came lies in its buffer: by cases of what was read. Assumes nothing.
-use Rattle.std.proofs.Common.{◌≡◌, ℕ, ◌≤◌, arith}
+use Rattle.std.proofs.Common.{ℕ, ◌≤◌, arith}
 use Rattle.pipes.specs.declared.reading.Brought.{Brought}
 use Rattle.pipes.specs.declared.reading.Brought.TheVariants as brought
 use Rattle.pipes.specs.declared.books.Came.{Came}
-use Rattle.pipes.specs.Reading.{Fits, ReadTo}
+use Rattle.pipes.specs.Reading.{Fits}
 use Rattle.pipes.specs.Books.{book_of, SizedBook, whole_of, CameWithin}
 
 book_within : (size room : ℕ) (b : Brought) → size ≤ room → Fits b size → CameWithin (book_of size b) room
