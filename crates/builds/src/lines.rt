@@ -1,6 +1,5 @@
 // A line for each book that is built.
 use builder::{Built, build};
-use libc::STDOUT_FILENO;
 use tables::layout::SIZE;
 
 // One byte more than the published size: it must stay as it is.
@@ -13,12 +12,12 @@ fn old() -> [u8; MEMORY] {
     [OLD; MEMORY]
 }
 
-fn text(words: &[u8]) {
-    io::write_all(STDOUT_FILENO, words);
+fn text(rt: &impl Print, words: &[u8]) {
+    let _ = rt.write_all(words);
 }
 
-fn number(n: usize) {
-    io::print_decimal(STDOUT_FILENO, n as u64);
+fn number(rt: &impl Print, n: usize) {
+    let _ = rt.print(n);
 }
 
 // Whether the memory holds nothing but one value up to the published size.
@@ -33,56 +32,56 @@ fn holds_only(memory: &[u8; MEMORY], value: u8) -> bool {
     true
 }
 
-fn counts(memory: &[u8; MEMORY]) {
-    number(tables::state_count(memory));
-    text(b" states, ");
-    number(tables::piece_count(memory));
-    text(b" pieces, ");
-    number(tables::phrase_count(memory));
-    text(b" phrases");
+fn counts(rt: &impl Print, memory: &[u8; MEMORY]) {
+    number(rt, tables::state_count(memory));
+    text(rt, b" states, ");
+    number(rt, tables::piece_count(memory));
+    text(rt, b" pieces, ");
+    number(rt, tables::phrase_count(memory));
+    text(rt, b" phrases");
 }
 
-fn held(memory: &[u8; MEMORY]) {
+fn held(rt: &impl Print, memory: &[u8; MEMORY]) {
     if tables::passes(memory) {
-        counts(memory);
+        counts(rt, memory);
         return;
     }
     if holds_only(memory, 0) {
-        text(b"zero");
+        text(rt, b"zero");
         return;
     }
     if holds_only(memory, OLD) {
-        text(b"as it was");
+        text(rt, b"as it was");
         return;
     }
-    text(b"something else");
+    text(rt, b"something else");
 }
 
-fn guard(memory: &[u8; MEMORY]) {
+fn guard(rt: &impl Print, memory: &[u8; MEMORY]) {
     if memory[SIZE] == OLD {
-        text(b", the byte past the size kept\n");
+        text(rt, b", the byte past the size kept\n");
         return;
     }
-    text(b", the byte past the size lost\n");
+    text(rt, b", the byte past the size lost\n");
 }
 
-fn said(answer: Built) {
-    text(b": build ");
-    number(lent::wide_size(answer.number()));
-    text(b" at ");
-    number(answer.offset());
-    text(b", ");
+fn said(rt: &impl Print, answer: Built) {
+    text(rt, b": build ");
+    number(rt, lent::wide_size(answer.number()));
+    text(rt, b" at ");
+    number(rt, answer.offset());
+    text(rt, b", ");
 }
 
-fn report(what: &[u8], answer: Built, memory: &[u8; MEMORY]) {
-    text(what);
-    said(answer);
-    held(memory);
-    guard(memory);
+fn report(rt: &impl Print, what: &[u8], answer: Built, memory: &[u8; MEMORY]) {
+    text(rt, what);
+    said(rt, answer);
+    held(rt, memory);
+    guard(rt, memory);
 }
 
 // Builds the first so many bytes of a sheet into the first so many bytes of the memory, and writes the line.
-pub(crate) fn line(what: &[u8], book: &[u8], end: usize, lent: usize) {
+pub(crate) fn line(rt: &impl Print, what: &[u8], book: &[u8], end: usize, lent: usize) {
     let mut memory = old();
     if book.len() < end {
         return;
@@ -91,11 +90,11 @@ pub(crate) fn line(what: &[u8], book: &[u8], end: usize, lent: usize) {
         return;
     }
     let answer = build(&book[..end], &mut memory[..lent]);
-    report(what, answer, &memory);
+    report(rt, what, answer, &memory);
 }
 
 // The same memory twice: the second book leaves nothing of the first.
-pub(crate) fn again(what: &[u8], book: &[u8], first: usize, second: usize) {
+pub(crate) fn again(rt: &impl Print, what: &[u8], book: &[u8], first: usize, second: usize) {
     let mut memory = old();
     if book.len() < first {
         return;
@@ -105,5 +104,5 @@ pub(crate) fn again(what: &[u8], book: &[u8], first: usize, second: usize) {
     }
     build(&book[..first], &mut memory);
     let answer = build(&book[..second], &mut memory);
-    report(what, answer, &memory);
+    report(rt, what, answer, &memory);
 }

@@ -1,5 +1,7 @@
 // Builds the largest books, and refused ones, into memory that holds old bytes, and writes a line for each: what is tried, build's
 // number and offset, what the memory holds then, and whether the byte past the published size is as it was.
+#![tactic(auto)]
+
 mod lines;
 
 use lines::{again, line};
@@ -33,7 +35,7 @@ const SHORT: usize = 9;
 
 // A book of so many pieces, so many to a phrase, each with a keyword of so many bytes; the second bytes of the keywords differ, or
 // all keywords are alike. The end record says so many phrases.
-#[derive(Drop)]
+#[derive(Clone, Copy)]
 struct Shape {
     pieces: usize,
     each: usize,
@@ -91,14 +93,15 @@ fn pieces(book: &mut [u8], shape: Shape) -> usize {
 
 // ── The cases ──
 
-fn shaped(what: &[u8], shape: Shape) {
+fn shaped(rt: &impl Print, what: &[u8], shape: Shape) {
     let mut book = [0u8; ROOM];
     let end = pieces(&mut book, shape);
-    line(what, &book, end, SIZE);
+    line(rt, what, &book, end, SIZE);
 }
 
-fn largest() {
+fn largest(rt: &impl Print) {
     shaped(
+        rt,
         b"128 phrases",
         Shape {
             pieces: 128,
@@ -109,6 +112,7 @@ fn largest() {
         },
     );
     shaped(
+        rt,
         b"256 pieces",
         Shape {
             pieces: 256,
@@ -119,6 +123,7 @@ fn largest() {
         },
     );
     shaped(
+        rt,
         b"128 phrases of 2 long pieces",
         Shape {
             pieces: 256,
@@ -129,6 +134,7 @@ fn largest() {
         },
     );
     shaped(
+        rt,
         b"2047 prefixes",
         Shape {
             pieces: 66,
@@ -140,8 +146,9 @@ fn largest() {
     );
 }
 
-fn too_large() {
+fn too_large(rt: &impl Print) {
     shaped(
+        rt,
         b"129 phrases",
         Shape {
             pieces: 129,
@@ -152,6 +159,7 @@ fn too_large() {
         },
     );
     shaped(
+        rt,
         b"257 pieces",
         Shape {
             pieces: 257,
@@ -162,6 +170,7 @@ fn too_large() {
         },
     );
     shaped(
+        rt,
         b"2078 prefixes",
         Shape {
             pieces: 67,
@@ -173,23 +182,23 @@ fn too_large() {
     );
 }
 
-fn small() {
+fn small(rt: &impl Print) {
     let example = EXAMPLE;
     let mut crossed = EXAMPLE;
     crossed[LEAST_AT] = NINE;
     crossed[MOST_AT] = 1;
-    line(b"the example", &example, LONG, SIZE);
-    line(b"the example, least above most", &crossed, LONG, SIZE);
-    line(b"the example cut short", &example, SHORT, SIZE);
-    line(b"the empty book", &example, 0, SIZE);
-    line(b"tables one byte short", &example, LONG, SIZE - 1);
-    line(b"no tables", &example, LONG, 0);
-    line(b"tables one byte longer", &example, LONG, SIZE + 1);
-    again(b"the example, then it cut short", &example, LONG, SHORT);
+    line(rt, b"the example", &example, LONG, SIZE);
+    line(rt, b"the example, least above most", &crossed, LONG, SIZE);
+    line(rt, b"the example cut short", &example, SHORT, SIZE);
+    line(rt, b"the empty book", &example, 0, SIZE);
+    line(rt, b"tables one byte short", &example, LONG, SIZE - 1);
+    line(rt, b"no tables", &example, LONG, 0);
+    line(rt, b"tables one byte longer", &example, LONG, SIZE + 1);
+    again(rt, b"the example, then it cut short", &example, LONG, SHORT);
 }
 
-fn main() {
-    small();
-    largest();
-    too_large();
+fn main(rt: HostRuntime) {
+    small(&rt);
+    largest(&rt);
+    too_large(&rt);
 }

@@ -7,7 +7,7 @@ use crate::list::{
 };
 
 // How large the parts of a book are.
-#[derive(Drop)]
+#[derive(Clone, Copy)]
 pub(crate) struct Shape {
     // So many different bytes; with 0 nearly all are the same.
     pub(crate) alphabet: u16,
@@ -150,7 +150,7 @@ fn put_phrase(
 }
 
 // What the list holds.
-#[derive(Drop)]
+#[derive(Clone, Copy)]
 pub(crate) struct Size {
     pub(crate) phrases: usize,
     pub(crate) pieces: usize,

@@ -12,7 +12,7 @@ const OLD: u8 = 0xAA;
 // How a letter is fed. The way says in which parts it is offered, whole (0), byte by byte (1) or in two (2), with the least room,
 // and 3 more with a larger one. Then come the phrases of the book, by how many numbers the room is larger, and where the letter is
 // cut.
-#[derive(Drop)]
+#[derive(Clone, Copy)]
 pub(crate) struct Feeding {
     pub(crate) case: u64,
     pub(crate) way: u64,
@@ -28,7 +28,7 @@ const WHOLE: u64 = 0;
 const BYTES: u64 = 1;
 
 // What a call answers; a refused one takes more bytes than there are.
-#[derive(Drop)]
+#[derive(Clone, Copy)]
 struct Answer {
     taken: usize,
     reports: usize,
@@ -109,6 +109,7 @@ fn slots_of(feeding: Feeding) -> usize {
 // ── One call ──
 
 fn compare_call(
+    rt: &impl Print,
     counts: &mut [u64; COUNTS],
     spot: Spot,
     due: &[u64; DUE],
@@ -120,14 +121,15 @@ fn compare_call(
     let reports = sum(due, COUNT, after, upto);
     let steps = sum(due, COST, after, upto);
     compare(
+        rt,
         counts,
         spot,
         b" bytes taken up to",
         upto as u64,
         place as u64,
     );
-    compare(counts, spot, b" reports", reports, found.reports as u64);
-    compare(counts, spot, b" steps", steps, found.steps);
+    compare(rt, counts, spot, b" reports", reports, found.reports as u64);
+    compare(rt, counts, spot, b" steps", steps, found.steps);
     add(counts, CALLS, 1);
     add(counts, TAKEN, found.taken as u64);
 }
@@ -142,6 +144,7 @@ fn spot_of(feeding: Feeding, after: usize) -> Spot {
 
 // Answers the bytes taken.
 fn call(
+    rt: &impl Print,
     counts: &mut [u64; COUNTS],
     feeding: Feeding,
     due: &[u64; DUE],
@@ -156,9 +159,9 @@ fn call(
     let spot = spot_of(feeding, from);
     let found = fed_part(tables, running, letter, from, until, &mut room, slots);
     let upto = reached(due, feeding.phrases, slots, from, until);
-    compare_call(counts, spot, due, upto, found);
-    let first = compare_places(counts, spot, due, &room, upto);
-    compare_rest(counts, spot, &room, first, slots);
+    compare_call(rt, counts, spot, due, upto, found);
+    let first = compare_places(rt, counts, spot, due, &room, upto);
+    compare_rest(rt, counts, spot, &room, first, slots);
     found.taken
 }
 
@@ -183,6 +186,7 @@ fn part_end(feeding: Feeding, from: usize, length: usize) -> usize {
 
 // A part is offered until it is used up, then the next; at last an empty one.
 fn feed_parts(
+    rt: &impl Print,
     counts: &mut [u64; COUNTS],
     feeding: Feeding,
     due: &[u64; DUE],
@@ -193,7 +197,7 @@ fn feed_parts(
     let mut at = 0;
     while at < letter.len() {
         let until = part_end(feeding, at, letter.len());
-        let taken = call(counts, feeding, due, tables, running, letter, at, until);
+        let taken = call(rt, counts, feeding, due, tables, running, letter, at, until);
         if taken == 0 {
             return;
         }
@@ -202,7 +206,7 @@ fn feed_parts(
         }
         at += taken;
     }
-    call(counts, feeding, due, tables, running, letter, at, at);
+    call(rt, counts, feeding, due, tables, running, letter, at, at);
 }
 
 fn begun(tables: &[u8], running: &mut [u8]) -> bool {
@@ -214,6 +218,7 @@ fn begun(tables: &[u8], running: &mut [u8]) -> bool {
 }
 
 pub(crate) fn feed_letter(
+    rt: &impl Print,
     counts: &mut [u64; COUNTS],
     feeding: Feeding,
     due: &[u64; DUE],
@@ -222,8 +227,8 @@ pub(crate) fn feed_letter(
 ) {
     let mut running = [OLD; RUNNING];
     if !begun(tables, &mut running) {
-        compare(counts, spot_of(feeding, 0), b" begin", 0, 1);
+        compare(rt, counts, spot_of(feeding, 0), b" begin", 0, 1);
         return;
     }
-    feed_parts(counts, feeding, due, tables, &mut running, letter);
+    feed_parts(rt, counts, feeding, due, tables, &mut running, letter);
 }

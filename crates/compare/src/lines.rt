@@ -1,5 +1,4 @@
 // The lines that are written, and what is counted.
-use libc::STDOUT_FILENO;
 
 // ── Counts ──
 
@@ -45,41 +44,48 @@ pub(crate) fn add_if(counts: &mut [u64; COUNTS], which: usize, holds: bool) {
 
 // ── Lines ──
 
-fn text(words: &[u8]) {
-    io::write_all(STDOUT_FILENO, words);
+fn text(rt: &impl Print, words: &[u8]) {
+    let _ = rt.write_all(words);
 }
 
 // Some words, and then a number.
-fn part(words: &[u8], number: u64) {
-    text(words);
-    io::print_decimal(STDOUT_FILENO, number);
+fn part(rt: &impl Print, words: &[u8], number: u64) {
+    text(rt, words);
+    let _ = rt.print(number);
 }
 
 // Where something is compared: in which case, in which way, and after how many bytes of the letter.
-#[derive(Drop)]
+#[derive(Clone, Copy)]
 pub(crate) struct Spot {
     pub(crate) case: u64,
     pub(crate) way: u64,
     pub(crate) after: usize,
 }
 
-fn differ(spot: Spot, what: &[u8], due: u64, found: u64) {
-    part(b"case ", spot.case);
-    part(b" way ", spot.way);
-    part(b" after ", spot.after as u64);
-    text(what);
-    part(b" due ", due);
-    part(b" found ", found);
-    text(b"\n");
+fn differ(rt: &impl Print, spot: Spot, what: &[u8], due: u64, found: u64) {
+    part(rt, b"case ", spot.case);
+    part(rt, b" way ", spot.way);
+    part(rt, b" after ", spot.after as u64);
+    text(rt, what);
+    part(rt, b" due ", due);
+    part(rt, b" found ", found);
+    text(rt, b"\n");
 }
 
 // A line where two numbers differ.
-pub(crate) fn compare(counts: &mut [u64; COUNTS], spot: Spot, what: &[u8], due: u64, found: u64) {
+pub(crate) fn compare(
+    rt: &impl Print,
+    counts: &mut [u64; COUNTS],
+    spot: Spot,
+    what: &[u8],
+    due: u64,
+    found: u64,
+) {
     if due == found {
         return;
     }
     add(counts, DIFFERENCES, 1);
-    differ(spot, what, due, found);
+    differ(rt, spot, what, due, found);
 }
 
 // ── What was compared ──
@@ -87,47 +93,50 @@ pub(crate) fn compare(counts: &mut [u64; COUNTS], spot: Spot, what: &[u8], due: 
 const COLON: u8 = 58;
 
 // One byte of the names; where a name ends, its count.
-fn entry(counts: &[u64; COUNTS], which: usize, byte: u8) -> usize {
+fn entry(rt: &impl Print, counts: &[u64; COUNTS], which: usize, byte: u8) -> usize {
     let one = [byte; 1];
-    text(&one);
+    text(rt, &one);
     if byte != COLON {
         return which;
     }
     if which >= COUNTS {
         return which;
     }
-    part(b" ", counts[which]);
+    part(rt, b" ", counts[which]);
     which + 1
 }
 
 // The counts from one on, each behind its name.
-fn table(counts: &[u64; COUNTS], first: usize, names: &[u8]) {
+fn table(rt: &impl Print, counts: &[u64; COUNTS], first: usize, names: &[u8]) {
     let mut which = first;
     let mut i = 0;
     while i < names.len() {
-        which = entry(counts, which, names[i]);
+        which = entry(rt, counts, which, names[i]);
         i += 1;
     }
 }
 
-pub(crate) fn summary(counts: &[u64; COUNTS]) {
+pub(crate) fn summary(rt: &impl Print, counts: &[u64; COUNTS]) {
     table(
+        rt,
         counts,
         PHRASES,
         b"phrases:\npieces:\nbytes of letters:\nfailure steps:\n",
     );
     table(
+        rt,
         counts,
         REPORTED,
         b"letters with a report:\nreports:\nat a place with another:\n",
     );
     table(
+        rt,
         counts,
         SEVERAL,
         b"of several pieces:\nbehind a far gap:\ncalls:\nbytes taken:\n",
     );
-    part(b"compared ", counts[CASES]);
-    part(b" books and letters, ", counts[REPORTS]);
-    part(b" reports, ", counts[DIFFERENCES]);
-    text(b" differences\n");
+    part(rt, b"compared ", counts[CASES]);
+    part(rt, b" books and letters, ", counts[REPORTS]);
+    part(rt, b" reports, ", counts[DIFFERENCES]);
+    text(rt, b" differences\n");
 }

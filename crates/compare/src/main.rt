@@ -1,5 +1,7 @@
 // Runs the scanner beside a second matcher, which is made straight from document 01's definitions, on books and letters by chance.
 // It writes a line for each thing in which they differ, then what the books and letters held, and at last how much was compared.
+#![tactic(auto)]
+
 mod books;
 mod calls;
 mod chance;
@@ -77,6 +79,7 @@ fn built(book: &[u8], end: usize, tables: &mut [u8]) -> usize {
 
 // Every book here must be taken.
 fn build_book(
+    rt: &impl Print,
     counts: &mut [u64; COUNTS],
     case: u64,
     list: &[u16; LIST],
@@ -92,6 +95,7 @@ fn build_book(
         after: 0,
     };
     lines::compare(
+        rt,
         counts,
         spot,
         b" length of the book",
@@ -119,6 +123,7 @@ fn more_room(chance: &mut [u64; 1], case: u64) -> usize {
 }
 
 fn all_ways(
+    rt: &impl Print,
     counts: &mut [u64; COUNTS],
     feeding: Feeding,
     due: &[u64; DUE],
@@ -134,7 +139,7 @@ fn all_ways(
             more: feeding.more,
             cut: feeding.cut,
         };
-        calls::feed_letter(counts, this, due, tables, letter);
+        calls::feed_letter(rt, counts, this, due, tables, letter);
         way += 1;
     }
 }
@@ -142,6 +147,7 @@ fn all_ways(
 // ── Cases ──
 
 fn compare_case(
+    rt: &impl Print,
     counts: &mut [u64; COUNTS],
     list: &[u16; LIST],
     size: Size,
@@ -151,8 +157,8 @@ fn compare_case(
     let mut due = [0u64; DUE];
     let mut tables = [OLD; TABLES];
     due::find_due(counts, list, letter, &mut due, size.pieces);
-    build_book(counts, feeding.case, list, size, &mut tables);
-    all_ways(counts, feeding, &due, &tables, letter);
+    build_book(rt, counts, feeding.case, list, size, &mut tables);
+    all_ways(rt, counts, feeding, &due, &tables, letter);
     lines::add(counts, lines::CASES, 1);
     lines::add(counts, lines::PHRASES, size.phrases as u64);
     lines::add(counts, lines::PIECES, size.pieces as u64);
@@ -161,6 +167,7 @@ fn compare_case(
 
 // The letter has only so many of the bytes.
 fn compare_first(
+    rt: &impl Print,
     counts: &mut [u64; COUNTS],
     list: &[u16; LIST],
     size: Size,
@@ -171,10 +178,11 @@ fn compare_first(
     if length > bytes.len() {
         return;
     }
-    compare_case(counts, list, size, feeding, &bytes[..length]);
+    compare_case(rt, counts, list, size, feeding, &bytes[..length]);
 }
 
 fn compare_bytes(
+    rt: &impl Print,
     counts: &mut [u64; COUNTS],
     list: &[u16; LIST],
     size: Size,
@@ -182,11 +190,12 @@ fn compare_bytes(
     bytes: &[u8; LETTER],
     length: usize,
 ) {
-    compare_first(counts, list, size, feeding, bytes, length);
+    compare_first(rt, counts, list, size, feeding, bytes, length);
 }
 
 // A letter for the book.
 fn with_letter(
+    rt: &impl Print,
     counts: &mut [u64; COUNTS],
     chance: &mut [u64; 1],
     case: u64,
@@ -205,23 +214,23 @@ fn with_letter(
         more,
         cut: size(draw(chance, (length % LETTER + 1) as u16)),
     };
-    compare_bytes(counts, list, book, feeding, &bytes, length);
+    compare_bytes(rt, counts, list, book, feeding, &bytes, length);
 }
 
-fn one_case(counts: &mut [u64; COUNTS], chance: &mut [u64; 1], case: u64) {
+fn one_case(rt: &impl Print, counts: &mut [u64; COUNTS], chance: &mut [u64; 1], case: u64) {
     let mut list = [0u16; LIST];
     let shape = shape_of(case);
     let book = books::put_book(&mut list, chance, shape);
-    with_letter(counts, chance, case, &list, book, shape);
+    with_letter(rt, counts, chance, case, &list, book, shape);
 }
 
-fn main() {
+fn main(rt: HostRuntime) {
     let mut counts = [0u64; COUNTS];
     let mut chance = [SEED; 1];
     let mut case = 0;
     while case < CASES {
-        one_case(&mut counts, &mut chance, case);
+        one_case(&rt, &mut counts, &mut chance, case);
         case += 1;
     }
-    lines::summary(&counts);
+    lines::summary(&rt, &counts);
 }

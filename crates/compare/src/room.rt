@@ -17,6 +17,7 @@ fn in_room(room: &[u32; ROOM], at: usize) -> u64 {
 }
 
 fn compare_report(
+    rt: &impl Print,
     counts: &mut [u64; COUNTS],
     spot: Spot,
     room: &[u32; ROOM],
@@ -24,13 +25,21 @@ fn compare_report(
     number: u64,
     place: usize,
 ) {
-    compare(counts, spot, b" phrase", number, in_room(room, slot));
+    compare(rt, counts, spot, b" phrase", number, in_room(room, slot));
     let second = std::num::wrapping_add_usize(slot, 1);
-    compare(counts, spot, b" place", place as u64, in_room(room, second));
+    compare(
+        rt,
+        counts,
+        spot,
+        b" place",
+        place as u64,
+        in_room(room, second),
+    );
 }
 
 // The reports of one place; answers where the next ones begin.
 fn compare_place(
+    rt: &impl Print,
     counts: &mut [u64; COUNTS],
     spot: Spot,
     due: &[u64; DUE],
@@ -45,6 +54,7 @@ fn compare_place(
             return next;
         }
         compare_report(
+            rt,
             counts,
             spot,
             room,
@@ -59,6 +69,7 @@ fn compare_place(
 }
 
 pub(crate) fn compare_places(
+    rt: &impl Print,
     counts: &mut [u64; COUNTS],
     spot: Spot,
     due: &[u64; DUE],
@@ -69,13 +80,14 @@ pub(crate) fn compare_places(
     let mut place = spot.after;
     while place < upto {
         place += 1;
-        slot = compare_place(counts, spot, due, room, slot, place);
+        slot = compare_place(rt, counts, spot, due, room, slot, place);
     }
     slot
 }
 
 // Room past the reports is unchanged.
 pub(crate) fn compare_rest(
+    rt: &impl Print,
     counts: &mut [u64; COUNTS],
     spot: Spot,
     room: &[u32; ROOM],
@@ -85,6 +97,7 @@ pub(crate) fn compare_rest(
     let mut slot = first;
     while slot < slots {
         compare(
+            rt,
             counts,
             spot,
             b" room past the reports",

@@ -1,7 +1,8 @@
 // Judges books at document 01's limits and just past them, and writes a line for each: what is tried, then the book's number,
 // its offset and, where it is accepted, its phrases.
+#![tactic(auto)]
+
 use book::Judged;
-use libc::STDOUT_FILENO;
 use sheet::EXAMPLE;
 
 // The longest book that is tried here has 10,245 bytes.
@@ -15,50 +16,50 @@ const PIECES_IN_A_PHRASE: usize = 8;
 
 // ── What is written ──
 
-fn text(words: &[u8]) {
-    io::write_all(STDOUT_FILENO, words);
+fn text(rt: &impl Print, words: &[u8]) {
+    let _ = rt.write_all(words);
 }
 
-fn number(n: usize) {
-    io::print_decimal(STDOUT_FILENO, n as u64);
+fn number(rt: &impl Print, n: usize) {
+    let _ = rt.print(n);
 }
 
 // Words, and the number that they name.
-fn told(words: &[u8], n: usize) {
-    text(words);
-    number(n);
+fn told(rt: &impl Print, words: &[u8], n: usize) {
+    text(rt, words);
+    number(rt, n);
 }
 
-fn judged(book: &[u8]) {
+fn judged(rt: &impl Print, book: &[u8]) {
     let answer = book::judge(book);
     match answer {
         Judged::Accepted { length, phrases } => {
-            told(b"book 0 at ", length);
-            told(b" phrases ", phrases);
+            told(rt, b"book 0 at ", length);
+            told(rt, b" phrases ", phrases);
         }
         Judged::Refused { why, at } => {
-            told(b"book ", lent::wide_size(why.number()));
-            told(b" at ", at);
+            told(rt, b"book ", lent::wide_size(why.number()));
+            told(rt, b" at ", at);
         }
     }
-    text(b"\n");
+    text(rt, b"\n");
 }
 
 // A line for the first `end` bytes of the sheet.
-fn line(what: &[u8], book: &[u8], end: usize) {
-    text(what);
-    text(b": ");
+fn line(rt: &impl Print, what: &[u8], book: &[u8], end: usize) {
+    text(rt, what);
+    text(rt, b": ");
     if end <= book.len() {
-        judged(&book[..end]);
+        judged(rt, &book[..end]);
     } else {
-        text(b"too long\n");
+        text(rt, b"too long\n");
     }
 }
 
 // A line whose words end in a number.
-fn numbered(what: &[u8], n: usize, book: &[u8], end: usize) {
-    told(what, n);
-    line(b"", book, end);
+fn numbered(rt: &impl Print, what: &[u8], n: usize, book: &[u8], end: usize) {
+    told(rt, what, n);
+    line(rt, b"", book, end);
 }
 
 // ── Books of one phrase and one piece ──
@@ -91,41 +92,41 @@ fn finish(book: &mut [u8], at: usize, phrases: u16) -> usize {
     sheet::end(book, end, phrases)
 }
 
-fn with_fields(what: &[u8], edition: u8, first: u16, rights: u8) {
+fn with_fields(rt: &impl Print, what: &[u8], edition: u8, first: u16, rights: u8) {
     let mut book = [0u8; ROOM];
     let at = begin(&mut book, edition, first, rights);
     let gap = sheet::open(&mut book, at, 0);
     let end = finish(&mut book, gap, 1);
-    line(what, &book, end);
+    line(rt, what, &book, end);
 }
 
-fn with_open(what: &[u8], least: u16) {
+fn with_open(rt: &impl Print, what: &[u8], least: u16) {
     let mut book = [0u8; ROOM];
     let at = begin(&mut book, 1, 1, 1);
     let gap = sheet::open(&mut book, at, least);
     let end = finish(&mut book, gap, 1);
-    line(what, &book, end);
+    line(rt, what, &book, end);
 }
 
-fn with_bounds(what: &[u8], least: u16, most: u16) {
+fn with_bounds(rt: &impl Print, what: &[u8], least: u16, most: u16) {
     let mut book = [0u8; ROOM];
     let at = begin(&mut book, 1, 1, 1);
     let gap = sheet::bounded(&mut book, at, least, most);
     let end = finish(&mut book, gap, 1);
-    line(what, &book, end);
+    line(rt, what, &book, end);
 }
 
-fn with_keyword(what: &[u8], length: u8) {
+fn with_keyword(rt: &impl Print, what: &[u8], length: u8) {
     let mut book = [0u8; ROOM];
     let at = begin(&mut book, 1, 1, 1);
     let gap = sheet::open(&mut book, at, 0);
     let word = keyword(&mut book, gap, length, b'a', b'b');
     let end = sheet::end(&mut book, word, 1);
-    line(what, &book, end);
+    line(rt, what, &book, end);
 }
 
 // Two phrases with these numbers.
-fn with_numbers(what: &[u8], first: u16, second: u16) {
+fn with_numbers(rt: &impl Print, what: &[u8], first: u16, second: u16) {
     let mut book = [0u8; ROOM];
     let at = begin(&mut book, 1, first, 1);
     let gap = sheet::open(&mut book, at, 0);
@@ -133,58 +134,58 @@ fn with_numbers(what: &[u8], first: u16, second: u16) {
     let later = sheet::phrase(&mut book, word, second, 1);
     let last = sheet::open(&mut book, later, 0);
     let end = finish(&mut book, last, 2);
-    line(what, &book, end);
+    line(rt, what, &book, end);
 }
 
 // One phrase, an end record with this number, and so many bytes after it.
-fn with_end(what: &[u8], phrases: u16, after: usize) {
+fn with_end(rt: &impl Print, what: &[u8], phrases: u16, after: usize) {
     let mut book = [0u8; ROOM];
     let at = begin(&mut book, 1, 1, 1);
     let gap = sheet::open(&mut book, at, 0);
     let end = finish(&mut book, gap, phrases);
     let past = sheet::many(&mut book, end, after, 0);
-    line(what, &book, past);
+    line(rt, what, &book, past);
 }
 
 // ── Records where they may not stand ──
 
-fn misplaced(what: &[u8], kind: u8, behind: u8) {
+fn misplaced(rt: &impl Print, what: &[u8], kind: u8, behind: u8) {
     let mut book = [0u8; ROOM];
     let at = begin(&mut book, 1, 1, 1);
     let end = sheet::byte(&mut book, at, kind);
     let past = sheet::many(&mut book, end, lent::wide_size(behind), 0);
-    line(what, &book, past);
+    line(rt, what, &book, past);
 }
 
-fn only_header_and_end() {
+fn only_header_and_end(rt: &impl Print) {
     let mut book = [0u8; ROOM];
     let at = sheet::header(&mut book, 0, 1);
     let end = sheet::end(&mut book, at, 0);
-    line(b"no phrase", &book, end);
+    line(rt, b"no phrase", &book, end);
 }
 
-fn two_gaps() {
+fn two_gaps(rt: &impl Print) {
     let mut book = [0u8; ROOM];
     let at = begin(&mut book, 1, 1, 1);
     let gap = sheet::open(&mut book, at, 0);
     let second = sheet::open(&mut book, gap, 0);
     let end = finish(&mut book, second, 1);
-    line(b"a gap after a gap", &book, end);
+    line(rt, b"a gap after a gap", &book, end);
 }
 
 // A phrase record with number 0 that is cut short: 2 comes before 4.
-fn cut_bad_field() {
+fn cut_bad_field(rt: &impl Print) {
     let mut book = [0u8; ROOM];
     let at = sheet::header(&mut book, 0, 1);
     let kind = sheet::byte(&mut book, at, sheet::PHRASE);
     let end = sheet::two(&mut book, kind, 0);
-    line(b"a bad field in a cut record", &book, end);
+    line(rt, b"a bad field in a cut record", &book, end);
 }
 
-fn cut_everywhere() {
+fn cut_everywhere(rt: &impl Print) {
     let example = EXAMPLE;
     for n in 0..28usize {
-        numbered(b"the example cut after ", n, &example, n);
+        numbered(rt, b"the example cut after ", n, &example, n);
     }
 }
 
@@ -217,14 +218,14 @@ fn piece(
 }
 
 // So many pieces of one byte.
-fn small_pieces(what: &[u8], count: usize, each: usize, phrases: u16) {
+fn small_pieces(rt: &impl Print, what: &[u8], count: usize, each: usize, phrases: u16) {
     let mut book = [0u8; ROOM];
     let mut at = sheet::header(&mut book, 0, 1);
     for n in 0..count {
         at = piece(&mut book, at, n, each, 1, b'a', b'a');
     }
     let end = sheet::end(&mut book, at, phrases);
-    line(what, &book, end);
+    line(rt, what, &book, end);
 }
 
 // A bounded gap and a keyword of 32 bytes.
@@ -240,18 +241,18 @@ fn longest_phrase(book: &mut [u8], at: usize, number: u16) -> usize {
 }
 
 // The longest book: 128 phrases of two such pieces.
-fn longest() {
+fn longest(rt: &impl Print) {
     let mut book = [0u8; ROOM];
     let mut at = sheet::header(&mut book, 0, 1);
     for n in 0..128u16 {
         at = longest_phrase(&mut book, at, n + 1);
     }
     let end = sheet::end(&mut book, at, 128);
-    line(b"the longest book", &book, end);
+    line(rt, b"the longest book", &book, end);
 }
 
 // 63 keywords of 32 bytes that share nothing, and a last one: 2,016 prefixes and those of the last.
-fn without_sharing(what: &[u8], last: u8) {
+fn without_sharing(rt: &impl Print, what: &[u8], last: u8) {
     let mut book = [0u8; ROOM];
     let mut at = sheet::header(&mut book, 0, 1);
     for n in 0..63usize {
@@ -267,7 +268,7 @@ fn without_sharing(what: &[u8], last: u8) {
     }
     at = piece(&mut book, at, 63, PIECES_IN_A_PHRASE, last, 63, b'x');
     let end = sheet::end(&mut book, at, 8);
-    line(what, &book, end);
+    line(rt, what, &book, end);
 }
 
 // A 67th piece, or none where its keyword would be empty.
@@ -279,7 +280,7 @@ fn one_more(book: &mut [u8], at: usize, length: u8, second: u8) -> usize {
 }
 
 // 66 keywords of 32 bytes that share their first byte, 2,047 prefixes, and one more keyword.
-fn with_sharing(what: &[u8], length: u8, second: u8) {
+fn with_sharing(rt: &impl Print, what: &[u8], length: u8, second: u8) {
     let mut book = [0u8; ROOM];
     let mut at = sheet::header(&mut book, 0, 1);
     for n in 0..66usize {
@@ -295,87 +296,87 @@ fn with_sharing(what: &[u8], length: u8, second: u8) {
     }
     let last = one_more(&mut book, at, length, second);
     let end = sheet::end(&mut book, last, 9);
-    line(what, &book, end);
+    line(rt, what, &book, end);
 }
 
 // ── The cases ──
 
-fn fields() {
-    with_fields(b"edition 0", 0, 1, 1);
-    with_fields(b"edition 1", 1, 1, 1);
-    with_fields(b"edition 2", 2, 1, 1);
-    with_fields(b"phrase number 0", 1, 0, 1);
-    with_fields(b"phrase number 65535", 1, 65535, 1);
-    with_fields(b"rights 0", 1, 1, 0);
-    with_fields(b"rights 1", 1, 1, 1);
-    with_fields(b"rights 12", 1, 1, 12);
-    with_fields(b"rights 13", 1, 1, 13);
+fn fields(rt: &impl Print) {
+    with_fields(rt, b"edition 0", 0, 1, 1);
+    with_fields(rt, b"edition 1", 1, 1, 1);
+    with_fields(rt, b"edition 2", 2, 1, 1);
+    with_fields(rt, b"phrase number 0", 1, 0, 1);
+    with_fields(rt, b"phrase number 65535", 1, 65535, 1);
+    with_fields(rt, b"rights 0", 1, 1, 0);
+    with_fields(rt, b"rights 1", 1, 1, 1);
+    with_fields(rt, b"rights 12", 1, 1, 12);
+    with_fields(rt, b"rights 13", 1, 1, 13);
 }
 
-fn gaps() {
-    with_open(b"open, least 224", 224);
-    with_open(b"open, least 225", 225);
-    with_bounds(b"bounded, least 224", 224, 60000);
-    with_bounds(b"bounded, least 225", 225, 60000);
-    with_bounds(b"most 60000", 0, 60000);
-    with_bounds(b"most 60001", 0, 60001);
-    with_bounds(b"least equal to most", 7, 7);
-    with_bounds(b"least above most", 8, 7);
-    with_bounds(b"least 225 above most", 225, 7);
+fn gaps(rt: &impl Print) {
+    with_open(rt, b"open, least 224", 224);
+    with_open(rt, b"open, least 225", 225);
+    with_bounds(rt, b"bounded, least 224", 224, 60000);
+    with_bounds(rt, b"bounded, least 225", 225, 60000);
+    with_bounds(rt, b"most 60000", 0, 60000);
+    with_bounds(rt, b"most 60001", 0, 60001);
+    with_bounds(rt, b"least equal to most", 7, 7);
+    with_bounds(rt, b"least above most", 8, 7);
+    with_bounds(rt, b"least 225 above most", 225, 7);
 }
 
-fn kinds() {
-    with_keyword(b"kind A0", 32);
-    with_keyword(b"kind A1", 33);
-    with_keyword(b"kind 80", 0);
-    misplaced(b"a phrase with no piece, then the end", 0x7F, 2);
-    misplaced(b"a phrase with no piece, then a phrase", 0x02, 3);
-    misplaced(b"a keyword without a gap", 0x81, 1);
-    misplaced(b"an unknown kind", 0x05, 0);
-    only_header_and_end();
-    two_gaps();
-    cut_bad_field();
+fn kinds(rt: &impl Print) {
+    with_keyword(rt, b"kind A0", 32);
+    with_keyword(rt, b"kind A1", 33);
+    with_keyword(rt, b"kind 80", 0);
+    misplaced(rt, b"a phrase with no piece, then the end", 0x7F, 2);
+    misplaced(rt, b"a phrase with no piece, then a phrase", 0x02, 3);
+    misplaced(rt, b"a keyword without a gap", 0x81, 1);
+    misplaced(rt, b"an unknown kind", 0x05, 0);
+    only_header_and_end(rt);
+    two_gaps(rt);
+    cut_bad_field(rt);
 }
 
-fn order_and_end() {
-    with_numbers(b"phrase numbers 7 and 8", 7, 8);
-    with_numbers(b"phrase numbers 7 and 7", 7, 7);
-    with_numbers(b"phrase numbers 7 and 6", 7, 6);
-    with_end(b"end says 1", 1, 0);
-    with_end(b"end says 0", 0, 0);
-    with_end(b"end says 2", 2, 0);
-    with_end(b"end says 256", 256, 0);
-    with_end(b"a byte after the end record", 1, 1);
-    with_end(b"end says 2, and a byte after it", 2, 1);
+fn order_and_end(rt: &impl Print) {
+    with_numbers(rt, b"phrase numbers 7 and 8", 7, 8);
+    with_numbers(rt, b"phrase numbers 7 and 7", 7, 7);
+    with_numbers(rt, b"phrase numbers 7 and 6", 7, 6);
+    with_end(rt, b"end says 1", 1, 0);
+    with_end(rt, b"end says 0", 0, 0);
+    with_end(rt, b"end says 2", 2, 0);
+    with_end(rt, b"end says 256", 256, 0);
+    with_end(rt, b"a byte after the end record", 1, 1);
+    with_end(rt, b"end says 2, and a byte after it", 2, 1);
 }
 
-fn counts() {
-    small_pieces(b"128 phrases", 128, 1, 128);
-    small_pieces(b"129 phrases", 129, 1, 129);
-    small_pieces(b"8 pieces in a phrase", 8, 8, 1);
-    small_pieces(b"9 pieces in a phrase", 9, 9, 1);
-    small_pieces(b"256 pieces", 256, 8, 32);
-    small_pieces(b"257 pieces", 257, 8, 33);
-    longest();
+fn counts(rt: &impl Print) {
+    small_pieces(rt, b"128 phrases", 128, 1, 128);
+    small_pieces(rt, b"129 phrases", 129, 1, 129);
+    small_pieces(rt, b"8 pieces in a phrase", 8, 8, 1);
+    small_pieces(rt, b"9 pieces in a phrase", 9, 9, 1);
+    small_pieces(rt, b"256 pieces", 256, 8, 32);
+    small_pieces(rt, b"257 pieces", 257, 8, 33);
+    longest(rt);
 }
 
-fn prefixes() {
-    without_sharing(b"2047 prefixes", 31);
-    without_sharing(b"2048 prefixes", 32);
-    with_sharing(b"2047 prefixes, shared", 0, 0);
-    with_sharing(b"2047 prefixes, a keyword repeated", 32, 0);
-    with_sharing(b"2047 prefixes, a prefix of a keyword", 2, 65);
-    with_sharing(b"2048 prefixes, shared", 2, 66);
+fn prefixes(rt: &impl Print) {
+    without_sharing(rt, b"2047 prefixes", 31);
+    without_sharing(rt, b"2048 prefixes", 32);
+    with_sharing(rt, b"2047 prefixes, shared", 0, 0);
+    with_sharing(rt, b"2047 prefixes, a keyword repeated", 32, 0);
+    with_sharing(rt, b"2047 prefixes, a prefix of a keyword", 2, 65);
+    with_sharing(rt, b"2048 prefixes, shared", 2, 66);
 }
 
-fn main() {
+fn main(rt: HostRuntime) {
     let nothing = [0u8; 1];
-    line(b"the empty book", &nothing, 0);
-    cut_everywhere();
-    fields();
-    gaps();
-    kinds();
-    order_and_end();
-    counts();
-    prefixes();
+    line(&rt, b"the empty book", &nothing, 0);
+    cut_everywhere(&rt);
+    fields(&rt);
+    gaps(&rt);
+    kinds(&rt);
+    order_and_end(&rt);
+    counts(&rt);
+    prefixes(&rt);
 }

@@ -54,17 +54,17 @@ fn crossed(book: &mut [u8]) -> usize {
     pair(book, 7, b"not", 9, 1, b"print")
 }
 
-fn answered(answer: Built) {
-    told(b"refused build: build ", lent::wide64(answer.number()));
-    told(b" at ", answer.offset() as u64);
+fn answered(rt: &impl Print, answer: Built) {
+    told(rt, b"refused build: build ", lent::wide64(answer.number()));
+    told(rt, b" at ", answer.offset() as u64);
 }
 
-fn built(book: &[u8], end: usize, tables: &mut [u8]) {
+fn built(rt: &impl Print, book: &[u8], end: usize, tables: &mut [u8]) {
     if end > book.len() {
         return;
     }
-    answered(build(&book[..end], tables));
-    told(b" not zero ", other_bytes(tables, 0));
+    answered(rt, build(&book[..end], tables));
+    told(rt, b" not zero ", other_bytes(tables, 0));
 }
 
 fn begin_number(answer: Begun) -> u64 {
@@ -75,53 +75,54 @@ fn begin_number(answer: Begun) -> u64 {
     }
 }
 
-fn begun(tables: &[u8], running: &mut [u8]) {
+fn begun(rt: &impl Print, tables: &[u8], running: &mut [u8]) {
     let answer = scanner::begin(tables, running);
-    told(b", begin ", begin_number(answer));
-    told(b" changed ", other_bytes(running, OLD));
+    told(rt, b", begin ", begin_number(answer));
+    told(rt, b" changed ", other_bytes(running, OLD));
 }
 
-fn say(refusal: u64, taken: usize, reports: usize, steps: u64) {
-    told(b", feed ", refusal);
-    told(b" taken ", taken as u64);
-    told(b" reports ", reports as u64);
-    told(b" steps ", steps);
+fn say(rt: &impl Print, refusal: u64, taken: usize, reports: usize, steps: u64) {
+    told(rt, b", feed ", refusal);
+    told(rt, b" taken ", taken as u64);
+    told(rt, b" reports ", reports as u64);
+    told(rt, b" steps ", steps);
 }
 
-fn said(answer: Fed) {
+fn said(rt: &impl Print, answer: Fed) {
     match answer {
         Fed::Took {
             taken,
             reports,
             steps,
-        } => say(0, taken, reports, steps),
-        Fed::TooSmall => say(1, 0, 0, 0),
-        Fed::NotPassed => say(NOT_PASSED, 0, 0, 0),
-        Fed::NoRoom => say(NO_ROOM, 0, 0, 0),
-        Fed::TooLong => say(TOO_LONG, 0, 0, 0),
+        } => say(rt, 0, taken, reports, steps),
+        Fed::TooSmall => say(rt, 1, 0, 0, 0),
+        Fed::NotPassed => say(rt, NOT_PASSED, 0, 0, 0),
+        Fed::NoRoom => say(rt, NO_ROOM, 0, 0, 0),
+        Fed::TooLong => say(rt, TOO_LONG, 0, 0, 0),
     }
 }
 
-fn fed(tables: &[u8], running: &mut [u8], room: &mut [u32]) {
+fn fed(rt: &impl Print, tables: &[u8], running: &mut [u8], room: &mut [u32]) {
     let answer = scanner::feed(tables, running, b"do not ever print", room);
-    said(answer);
+    said(rt, answer);
     let bytes = other_bytes(running, OLD);
     told(
+        rt,
         b" changed ",
         std::num::wrapping_add_u64(bytes, other_numbers(room)),
     );
-    text(b"\n");
+    text(rt, b"\n");
 }
 
 // The line: build's number and offset and how many bytes of the tables it left other than zero; then begin and feed, each with what it says and
 // how much of the running memory and the room is other than before.
-pub(crate) fn refused_build() {
+pub(crate) fn refused_build(rt: &impl Print) {
     let mut book = [0u8; BOOK];
     let mut tables = [OLD; TABLES];
     let mut running = [OLD; RUNNING];
     let mut room = [OLD_NUMBER; ROOM];
     let end = crossed(&mut book);
-    built(&book, end, &mut tables);
-    begun(&tables, &mut running);
-    fed(&tables, &mut running, &mut room);
+    built(rt, &book, end, &mut tables);
+    begun(rt, &tables, &mut running);
+    fed(rt, &tables, &mut running, &mut room);
 }
