@@ -1,6 +1,6 @@
 /* Reads a phrase book and a letter, and says which phrase ends where: scan BOOK-FILE LETTER-FILE
  *
- *     rt staticlib desk
+ *     tools/desk-lib
  *     cc -Iinclude examples/scan.c target/staticlib/libdesk.a -o scan
  */
 #include <stdio.h>

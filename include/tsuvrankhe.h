@@ -1,6 +1,6 @@
 /* Tsuvrankhe: reads letters against an exchanged phrase book and says at which place which phrase ends.
  *
- * Link target/staticlib/libdesk.a, which `rt staticlib desk` makes for x86-64 Linux. It needs memcpy and memset and nothing else: it
+ * Link target/staticlib/libdesk.a, which `tools/desk-lib` makes for x86-64 Linux. It needs memcpy and memset and nothing else: it
  * allocates nothing, prints nothing and has no variables of its own. All memory is the caller's.
  *
  * A desk makes these calls, in this order:

@@ -1,4 +1,4 @@
-//! Finds the proved library, libdesk.a: in the folder that TSUVRANKHE_LIB names, or else where `rt staticlib desk` puts it.
+//! Finds the proved library, libdesk.a: in the folder that TSUVRANKHE_LIB names, or else where `tools/desk-lib` puts it.
 use std::env;
 use std::path::{Path, PathBuf};
 use std::process::exit;
@@ -28,13 +28,13 @@ fn main() {
     let machine = env::var("CARGO_CFG_TARGET_ARCH").unwrap_or_default();
     if !named && machine != "x86_64" {
         stop(&format!(
-            "`rt staticlib desk` makes a library for x86-64 alone, and this is built for {machine}. To try and to measure here, \
-             `tools/native-lib cargo ..` makes one for this machine and names its folder in TSUVRANKHE_LIB."
+            "`tools/desk-lib` makes a library for x86-64 alone, and this is built for {machine}. Name the folder of a libdesk.a for it in \
+             TSUVRANKHE_LIB."
         ));
     }
     if !library.is_file() {
         stop(&format!(
-            "there is no {}. Run `rt staticlib desk` at the repository's top first, or name the folder of libdesk.a in TSUVRANKHE_LIB.",
+            "there is no {}. Run `tools/desk-lib` at the repository's top first, or name the folder of libdesk.a in TSUVRANKHE_LIB.",
             library.display()
         ));
     }

@@ -8,24 +8,23 @@ fail() {
 }
 
 # Makes sure that a program is built: that it is there, and that no file of crates/ has changed since. A scan proves nothing again. The mark
-# of a build is as old as the build's start, and says where the toolchain is that the program runs by.
+# of a build is as old as the build's start.
 ready() { # PROGRAM
     program=$top/target/bin/$1
     mark=$top/target/$1-built
     is_ready && return
     command -v rt >/dev/null || fail 'the Rattle toolchain is not here: there is no command rt'
-    mkdir -p "$top/target" || fail "the folder target can't be made in $top"
+    mkdir -p "$top/target/bin" || fail "the folder target can't be made in $top"
     enter
     is_ready || build "$1"
     leave
     is_ready || fail 'a file of crates/ changed during the build; try again'
 }
 
+# What the toolchain makes in crates/NAME/out is no source.
 is_ready() {
-    [ -x "$program" ] && [ -r "$mark" ] || return 1
-    IFS= read -r tools <"$mark" || return 1
-    [ -r "$tools/lib/ld-linux-x86-64.so.2" ] || return 1
-    [ -z "$(find "$top/crates" "$top/crates.txt" -newer "$mark" 2>&1 | head -n 1)" ]
+    [ -x "$program" ] && [ -f "$mark" ] || return 1
+    [ -z "$(find "$top/crates" "$top/crates.txt" -name out -prune -o -type f -newer "$mark" -print 2>&1 | head -n 1)" ]
 }
 
 # One build at a time: a second one waits.
@@ -52,13 +51,13 @@ leave() {
 build() { # PROGRAM
     say 'the program is proved and built now; this takes some minutes, once'
     log=$top/target/$1-log
-    guide=$(rt doc) || fail 'the toolchain does not answer'
-    printf '%s\n' "${guide%/docs/*}/on/$(uname -m)/toolchain" >"$mark.new"
+    rm -f "$mark.new"
+    : >"$mark.new" || fail "nothing can be written in $top/target"
     ended=$({
         { "$top/tools/prove.sh" "$1" </dev/null 2>&1; echo $? >&3; } | tee "$log" | progress >&2
     } 3>&1)
     [ "$ended" = 0 ] || fail "the program could not be proved and built; $log has what the toolchain said"
-    mv "$mark.new" "$mark"
+    cp "$top/crates/$1/out/$1" "$program.new" && mv "$program.new" "$program" && mv "$mark.new" "$mark" || fail "nothing can be written in $top/target"
     say 'the program is built'
 }
 
@@ -66,8 +65,7 @@ build() { # PROGRAM
 progress() {
     while IFS= read -r line; do
         case $line in
-        *'(unchanged since it was last proved)' | 'rt: ok, '*) ;;
-        'rt: '*) say "${line#rt: }" ;;
+        'proved: '*) say "$line" ;;
         esac
     done
 }
@@ -75,12 +73,9 @@ progress() {
 # Runs the program that is ready, with its own standard input and output, and ends with the status that its last sentence means. A program of the
 # toolchain has no status of its own: it ends with 0, unless it was ended, and says on standard error how the listing ended.
 run() { # [WORDS..]
-    for name in $(env | sed -n 's/^\(QEMU_[A-Za-z0-9_]*\)=.*/\1/p'); do unset "$name"; done
-    emulator=$tools/bin/qemu-x86_64
-    [ -x "$emulator" ] || emulator=
     { true 3>&1; } 2>/dev/null || fail 'standard output is closed'
     exec 3>&1
-    said=$(exec ${emulator:+"$emulator"} "$tools/lib/ld-linux-x86-64.so.2" --library-path "$tools/lib" "$program" "$@" 2>&1 >&3 3>&-)
+    said=$(exec "$program" "$@" 2>&1 >&3 3>&-)
     case $?:$said in
     0:*'the letter is listed to its end') exit 0 ;;
     0:*'the book is refused'* | 0:*'the letter is refused'*)

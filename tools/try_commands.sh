@@ -32,6 +32,7 @@ mkdir folder
 { cat "$e/print.book"; head -c 65509 /dev/zero; } >long.book
 cp "$e/print.book" ./-b
 cp "$e/print.book" 'a book'
+cp "$e/print.book" "$(printf 'b\377k')"
 { printf '\000\033'; cat "$e/print.book" "$e/print.letter"; } >input
 
 try 'the example' 0 "$listing" '' '"$bin/scan"'
@@ -39,6 +40,7 @@ try 'two files' 0 "$listing" '' '"$bin/scan" "$e/print.book" "$e/print.letter"'
 try 'the letter from standard input' 0 "$listing" '' '"$bin/scan" "$e/print.book" - <"$e/print.letter"'
 try 'the letter from a pipe, byte by byte' 0 "$listing" '' 'for c in d o " " n o t " " e v e r " " p r i n t; do printf "%s" "$c"; done | "$bin/scan" "$e/print.book" -'
 try 'names with blanks and hyphens' 0 "$listing" '' '"$bin/scan" "a book" "$e/print.letter" && "$bin/scan" ./-b "$e/print.letter" >/dev/null'
+try 'a name that is not UTF-8' 0 "$listing" '' '"$bin/scan" b?k "$e/print.letter" && "$bin/scan" b?k - <"$e/print.letter" >/dev/null'
 try 'list' 0 "$listing" '' '"$bin/list" <input'
 try 'list, from a pipe in pieces' 0 "$listing" '' '{ head -c 1 input; sleep 1; tail -c +2 input | head -c 20; sleep 1; tail -c +22 input; } | "$bin/list"'
 try 'an empty letter' 0 "${opened}end 0 hits 0 steps 0\nno statement\n" '' '"$bin/scan" "$e/print.book" /dev/null'
