@@ -70,8 +70,8 @@ progress() {
     done
 }
 
-# Runs the program that is ready, with its own standard input and output, and ends with the status that its last sentence means. A program of the
-# toolchain has no status of its own: it ends with 0, unless it was ended, and says on standard error how the listing ended.
+# Runs the program that is ready, with its own standard input and output, and ends with the status that its last sentence means. The programs
+# end with 0, unless they were ended, and say on standard error how the listing ended.
 run() { # [WORDS..]
     { true 3>&1; } 2>/dev/null || fail 'standard output is closed'
     exec 3>&1

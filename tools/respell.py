@@ -5,7 +5,8 @@ Run once, at the top, after the toolchain's own port.py. It reads every name tha
 prove a function (Proof, Answers, Invariants), whose names the check gives. A name that begins with a small letter is respelled where
 it has a capital or a dash: `quickNext` is `quick_next`, `add-run-four` is `add_run_four`. Where two would fall together, the
 definition of specs/ has the plain name, and the lemma gets `_lem` behind it. Names of the library, of src/, and of what the check
-makes stay, and so do strings. It writes what it did to docs/names-respelled.txt: the old name and the new one.
+makes stay, and so do strings. It writes what it did to docs/names-respelled.txt: the old name,
+the new one, and the crates that declare it.
 """
 
 import collections
@@ -41,8 +42,9 @@ def snake(name):
 
 
 def declared(files):
-    """The names that begin with a small letter, each with the places (specs, proofs, field) in which it is declared."""
+    """The names that begin with a small letter, each with the places (specs, proofs, field) and the crates in which it is declared."""
     places = collections.defaultdict(set)
+    crates = collections.defaultdict(set)
     for path in files:
         if PROVES_A_FUNCTION.search(path):
             continue
@@ -63,7 +65,8 @@ def declared(files):
             for name in m.group(3).split():
                 if name not in WORDS and name not in MODIFIERS and re.match("[a-z_]", name):
                     places[name].add(folder if record is None else "field")
-    return places
+                    crates[name].add(path.split("/")[1])
+    return places, crates
 
 
 def of_the_library(files):
@@ -120,12 +123,12 @@ def outside_strings(text, turn):
 
 def main():
     files = antt()
-    places = declared(files)
+    places, crates = declared(files)
     fields = {n for n in places if "field" in places[n]}
     to, together = plan(places, of_the_library(files))
     with open("docs/names-respelled.txt", "w", encoding="utf-8") as f:
         for old, new in sorted(to.items()):
-            f.write(f"{old} {new}\n")
+            f.write(f"{old} {new} ({', '.join(sorted(crates[old]))})\n")
     for new, olds in sorted(together.items()):
         print("together:", new, *[f"{o}->{to.get(o, o)}({'+'.join(sorted(places[o]))})" for o in olds])
     taken = set(to.values())
