@@ -5,21 +5,24 @@
 ghost use Rattle.std.specs.Prelude.{◌≡◌, ◌+◌, ◌≤◌, ◌<◌, ltb};
 
 // The number of a state of the automaton.
-#[derive(Clone, Copy)]
+// Kept, holds: `State::numbered`, which is given any number of two bytes; so the bound of a state stands in clauses (`state.0 < room_for_states`).
+#[derive(Clone, Copy, PartialEq, Eq, PartialOrd, Ord)]
 pub struct State(u16);
 
 // A place in the letter: the number of bytes read. Closing places pass 32 bits.
-#[derive(Clone, Copy)]
+// Kept, holds: `Place::at` and `later`, which give closing places too; so that a place lies in the letter stands in clauses (`InLetter`).
+#[derive(Clone, Copy, PartialEq, Eq, PartialOrd, Ord)]
 pub struct Place(u64);
 
 // The number of a phrase, as the book has it.
-#[derive(Clone, Copy)]
+#[derive(Clone, Copy, PartialEq, Eq, PartialOrd, Ord)]
 pub struct Number(u16);
 
 // The index of a phrase in its book, the first being 0.
-#[derive(Clone, Copy)]
+#[derive(Clone, Copy, PartialEq, Eq, PartialOrd, Ord)]
 pub struct Rank(u8);
 
+// Kept, no plainer: `place.bytes()` and `state.index()` say what the number counts, which `u64::from(place)` and `usize::from(state)` would not.
 impl State {
     // The empty state, which is numbered first.
     pub fn root() -> State
@@ -44,7 +47,7 @@ impl State {
     pub fn index(self) -> usize
         ensures { (result ≡ self.0) × (result < 65536) }
     {
-        self.0 as usize
+        usize::from(self.0)
     }
 }
 
@@ -84,12 +87,6 @@ impl Place {
     {
         Place(self.0 + by)
     }
-
-    pub fn is_before(self, other: Place) -> bool
-        ensures { result ≡ ltb self.0 other.0 }
-    {
-        self.0 < other.0
-    }
 }
 
 impl Number {
@@ -106,12 +103,6 @@ impl Number {
         ensures { result ≡ self.0 }
     {
         self.0
-    }
-
-    pub fn is_above(self, other: Number) -> bool
-        ensures { result ≡ ltb other.0 self.0 }
-    {
-        other.0 < self.0
     }
 }
 
@@ -132,6 +123,6 @@ impl Rank {
     pub fn index(self) -> usize
         ensures { (result ≡ self.0) × (result < 256) }
     {
-        self.0 as usize
+        usize::from(self.0)
     }
 }

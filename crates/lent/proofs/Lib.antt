@@ -1,5 +1,6 @@
 pub mod Cases
 pub mod Bytes
 pub mod Orders
+pub mod Parts
 pub mod Numbers
 pub mod Zeros

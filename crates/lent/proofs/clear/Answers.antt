@@ -1,23 +1,12 @@
--- Each turn makes one more byte zero. The measure is how many are left.
--- Assumes nothing.
+-- The bytes of the part are all zero, and are put back. Assumes nothing.
+use Prim.Native.Nat.{◌+◌}
 use native.Mathlib.Omega.{arith}
-use mathlib.Core.Path.{◌≡◌, refl, ap, ◌∙◌}
-use lib.ListN.{length-set}
-use Rattle.lent.specs.Zeros.{with_zeros}
-use Rattle.lent.proofs.Zeros.{zeros_stored}
+use borrow.Rule.Slice.PartMut.{mid_len}
+use Rattle.lent.proofs.Parts.{zeros_put}
 use Rattle.lent.proofs.clear.Goals as goal
-
-pub loop-i-init : goal.loop-i-init
-unfolding with_zeros
-loop-i-init c = (omega arith, refl, refl)
-
-pub loop-i-preserved : goal.loop-i-preserved
-loop-i-preserved c =
-    let a = c.args in
-    (omega arith, zeros_stored a.s.now a.at c.loop-i.i c.loop-i.invariant.1, simp length-set (omega arith))
 
 pub returns : goal.returns
 returns c =
     let a = c.args in
-    let done : c.loop-i.i ≡ a.count = omega arith in
-    c.loop-i.invariant.1 ∙ ap (with_zeros a.s.now a.at) done
+    let long = mid_len a.at (a.at + a.count) a.s.now c.requires in
+    zeros_put a.count a.s.now a.at (omega arith) (omega arith) c.requires (c.fill.ensures.after (λ y e. e))

@@ -1,10 +1,14 @@
--- A number of four bytes is its low half and 65,536 times its high half, each a number of two bytes.
--- Assumes nothing.
+-- Each byte counts 256 times as much as the one before. Assumes nothing.
+use mathlib.Core.Path.{◌≡◌, ap}
+use Prim.Native.Nat.{ℕ, ◌+◌}
 use native.Mathlib.Omega.{arith}
-use Rattle.lent.proofs.Numbers.{number_parts}
+use lib.ListN.{get_or}
+use Rattle.lent.specs.Numbers.{number_at}
 use Rattle.lent.proofs.get4.Goals as goal
 
 pub returns : goal.returns
+unfolding number_at
 returns c =
-    let start = c.args in
-    omega (arith, number_parts 2 2 start.s.now start.at)
+    let at = c.args.at in
+    let same : (j k : ℕ) → j ≡ k → get_or c.args.s.now j 0 ≡ get_or c.args.s.now k 0 = λ j k e. ap (λ (l : ℕ). get_or c.args.s.now l 0) e in
+    omega (arith, c.from_le_bytes.ensures, same (at + 1 + 1) (at + 2) (omega arith), same (at + 1 + 1 + 1) (at + 3) (omega arith))

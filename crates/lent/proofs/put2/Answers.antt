@@ -1,10 +1,8 @@
--- The two stores are the two bytes of the number, low byte first.
--- Assumes nothing.
+-- The bytes of the number are put back in place of the part. Assumes nothing.
+use mathlib.Core.Path.{◌∙◌}
 use native.Mathlib.Omega.{arith}
-use Rattle.lent.specs.Numbers.{with_number}
-use Rattle.lent.proofs.Orders.{second_byte}
+use Rattle.lent.proofs.Parts.{number_put}
 use Rattle.lent.proofs.put2.Goals as goal
 
 pub returns : goal.returns
-unfolding with_number
-returns c = rw (second_byte c.args.v (omega arith))
+returns c = number_put 2 c.args.s.now c.args.at c.args.v (omega arith) c.requires (c.copy_from_slice.ensures.after ∙ c.to_le_bytes.ensures)

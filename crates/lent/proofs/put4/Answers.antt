@@ -1,9 +1,8 @@
--- Writing the low half and then the high half behind it writes the whole number.
--- Assumes nothing.
-use Rattle.lent.proofs.Numbers.{parts_stored}
+-- The bytes of the number are put back in place of the part. Assumes nothing.
+use mathlib.Core.Path.{◌∙◌}
+use native.Mathlib.Omega.{arith}
+use Rattle.lent.proofs.Parts.{number_put}
 use Rattle.lent.proofs.put4.Goals as goal
 
 pub returns : goal.returns
-returns c =
-    let start = c.args in
-    parts_stored 2 2 start.s.now _ _ start.at start.v c.put2.ensures c.put2-2.ensures
+returns c = number_put 4 c.args.s.now c.args.at c.args.v (omega arith) c.requires (c.copy_from_slice.ensures.after ∙ c.to_le_bytes.ensures)
