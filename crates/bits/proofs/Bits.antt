@@ -1,8 +1,8 @@
 -- Setting a bit sets that one and keeps the others: bit by bit, the lowest is the remainder by 2 and the others are those of the half.
 -- Assumes nothing.
-use mathlib.Core.Path.{◌≡◌, refl, sym, ap, ◌∙◌}
+use mathlib.Core.Path.{◌≡◌, refl, sym, ap, ap₂, ◌∙◌}
 use mathlib.Core.Bool.{false, ◌||◌}
-use Prim.Native.Nat.{ℕ, zero, suc, ◌+◌, ◌*◌, ◌/◌, ◌%◌, ◌^◌, max, ◌<◌}
+use Prim.Native.Nat.{ℕ, zero, suc, ◌+◌, ◌-◌, ◌*◌, ◌/◌, ◌%◌, ◌^◌, max, ◌≤◌, ◌<◌}
 use native.Mathlib.Nat.{pow-succ', div-div-eq-div-mul, div-one, mod-eq_of_lt, one-mul, mul_assoc, mul_comm}
 use native.Mathlib.Omega.{arith}
 use lib.Dec.{eqb, eqb-suc-suc, eqb-suc-zero, eqb-zero-suc}
@@ -48,6 +48,13 @@ pub bit_high : (k j b r : ℕ) → b < 2 ^ k → bit_of (b + 2 ^ k * r) (k + j) 
 bit_high k j b r small =
     let turned : b + 2 ^ k * r ≡ r * 2 ^ k + b = rw (mul_comm (2 ^ k) r) (omega arith) in
     sym (bit_shifted (b + 2 ^ k * r) k j) ∙ ap (λ (y : ℕ). bit_of (y / 2 ^ k) j) turned ∙ ap (λ (y : ℕ). bit_of y j) (high r k small)
+
+-- A number below 2 ^ k has no bit from k on.
+pub bit_past : (k j x : ℕ) → x < 2 ^ k → k ≤ j → bit_of x j ≡ false
+bit_past k j x small past =
+    let e : j ≡ k + (j - k) = omega arith in
+    let f : x ≡ x + 2 ^ k * 0 = omega arith in
+    ap₂ bit_of f e ∙ bit_high k (j - k) x 0 small ∙ bit_none (j - k)
 
 -- ── A bit that is set ──
 

@@ -1,13 +1,14 @@
 -- Below as many zeros as a number ends in no bit is set, and the next one is: each zero is one bit that is passed.
 -- Assumes nothing.
 use mathlib.Core.Path.{◌≡◌, refl, sym, ap, ◌∙◌}
-use mathlib.Core.Bool.{Bool, true, false}
+use mathlib.Core.Bool.{Bool, true, false, false≢true}
 use Prim.Native.Nat.{ℕ, zero, suc, ◌+◌, ◌-◌, ◌/◌, ◌%◌, ◌^◌, ◌≤◌, ◌<◌}
 use native.Mathlib.Omega.{arith}
+use Rattle.std.proofs.Math.Nat.{lt_of_not-le}
 use lib.Dec.{eqb}
 use lib.Count.{count_trailing_zeros, under}
 use Rattle.bits.specs.Bits.{bit_of, First}
-use Rattle.bits.proofs.Bits.{bit_next, bit_first, bit_shifted}
+use Rattle.bits.proofs.Bits.{bit_next, bit_first, bit_shifted, bit_past}
 
 pub zeros_below : (n x j : ℕ) → j < count_trailing_zeros n x → bit_of x j ≡ false
 unfolding count_trailing_zeros
@@ -74,3 +75,19 @@ first_same test other same n j r f = record {
   passed = λ k from below. sym (same k) ∙ f.passed k from below;
   found = λ l. sym (same r) ∙ f.found l;
 }
+
+-- A number of n bits may be searched as a wider one: what is found lies in its n bits.
+module _ (n wide x j : ℕ) (small : x < 2 ^ n) (narrow : n ≤ wide) (inside : j ≤ n) where
+  pub first_within : (r : ℕ) → First (bit_of x) wide j r → r < wide → First (bit_of x) n j r × (r < n)
+  first_within r f found = (record { reached = f.reached; within = omega (arith, below); passed = f.passed; found = λ l. f.found found }, below)
+    where
+      below : r < n
+      below = lt_of_not-le (λ past. false≢true (sym (bit_past n r x small past) ∙ f.found found))
+
+  pub first_without : First (bit_of x) wide j wide → First (bit_of x) n j n
+  first_without f = record {
+    reached = inside;
+    within = omega arith;
+    passed = λ k from below. f.passed k from (omega arith);
+    found = λ l. absurd (omega arith);
+  }

@@ -1,5 +1,5 @@
 -- The bits of a number, the lowest being bit 0. Assumes nothing: these are definitions.
-use Rattle.std.specs.Prelude.{◌≡◌, Bool, true, false, ℕ, ◌/◌, ◌%◌, ◌^◌, ◌≤◌, ◌<◌, eqb}
+use Rattle.std.specs.Prelude.{◌≡◌, Bool, true, false, ℕ, ◌/◌, ◌%◌, ◌^◌, ◌≤◌, ◌<◌, eqb, Option, Some, None}
 use Rattle.std.specs.Int.Bits.{bit_or}
 
 -- Bit j of a number is set.
@@ -16,3 +16,8 @@ pub record First (test : ℕ → Bool) (n j r : ℕ) : Type 0 where
   pub within : r ≤ n
   pub passed : (k : ℕ) → j ≤ k → k < r → test k ≡ false
   pub found : r < n → test r ≡ true
+
+-- What a search from j on, and below n, answers: the first number of which a test holds; none where there is none.
+abbrev pub Finds : (ℕ → Bool) → ℕ → ℕ → Option ℕ → Type 0
+Finds test n j None = First test n j n
+Finds test n j (Some r) = First test n j r × (r < n)

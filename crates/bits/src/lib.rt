@@ -1,39 +1,23 @@
-// The bits of a number: one is set, and the next one that is set is found.
+// The bits of a number: the next one that is set is found.
 #![tactic(auto)]
 
-ghost use Rattle.std.specs.Prelude.{◌≡◌, ◌≤◌, ◌<◌};
-ghost use Rattle.bits.specs.Bits.{bit_of, set_bit, First};
+ghost use Rattle.std.specs.Prelude.{◌≤◌};
+ghost use Rattle.bits.specs.Bits.{bit_of, Finds};
 
-// How many bits a number of 8 bytes has.
-const BITS: usize = 64;
+// How many bits a number has.
+const BITS: usize = 128;
 
-// The number with bit j set.
-pub fn with8(x: u8, j: usize) -> u8
-    requires { j < 8 }
-    ensures { result ≡ set_bit x j }
-{
-    x | (1 << j)
-}
-
-// The same for a number of 8 bytes.
-pub fn with64(x: u64, j: usize) -> u64
-    requires { j < 64 }
-    ensures { result ≡ set_bit x j }
-{
-    x | (1 << j)
-}
-
-// The first bit from j on that is set, 64 where none is.
-pub fn next64(x: u64, j: usize) -> usize
-    requires { j ≤ 64 }
-    ensures { First (bit_of x) 64 j result }
+// The first bit from j on that is set, if there is one.
+pub fn next(x: u128, j: usize) -> Option<usize>
+    requires { j ≤ 128 }
+    ensures { Finds (bit_of x) 128 j result }
 {
     if BITS <= j {
-        return BITS;
+        return None;
     }
-    let zeros = u64::trailing_zeros(x >> j) as usize;
+    let zeros = (x >> j).trailing_zeros() as usize;
     if BITS - j <= zeros {
-        return BITS;
+        return None;
     }
-    j + zeros
+    Some(j + zeros)
 }

@@ -3,12 +3,13 @@
 use mathlib.Core.Path.{◌≡◌, refl, sym, ap, ◌∙◌}
 use mathlib.Core.Bool.{Bool, true, false}
 use mathlib.Core.List.{List}
-use Prim.Native.Nat.{ℕ, ◌+◌, ◌≤◌, ◌<◌}
+use Prim.Native.Nat.{ℕ, ◌+◌, ◌-◌, ◌≤◌, ◌<◌}
 use native.Mathlib.Omega.{arith}
 use lib.Dec.{ltb}
+use Rattle.std.specs.Prelude.{Option, Some, None, SomeIff}
 use borrow.Author.Tests.{lt-ltb, le-ltb, le-leb, lt-leb, ltb-true, ltb-false}
 use Rattle.tables.specs.Layout.{room_for_pieces}
-use Rattle.tables.specs.Reads.{out_in, ending_in, first_link_in, fail_in, back_in, link_in, onward_in}
+use Rattle.tables.specs.Reads.{out_in, ending_in, first_link_in, fail_in, back_in, link_in, onward_in, as_link}
 
 module _ (t : List ℕ) where
   pub back_fail : (i : ℕ) → fail_in t i < i → back_in t i ≡ fail_in t i
@@ -55,3 +56,8 @@ module _ (t : List ℕ) where
   pub onward_none : (p : ℕ) → room_for_pieces < link_in t p → onward_in t p ≡ 0
   unfolding onward_in
   onward_none p outside = rw (lt-leb (link_in t p) room_for_pieces outside)
+
+-- Where a link is one to a piece, that piece is one less.
+pub linked_on : (link : ℕ) (o : Option ℕ) → SomeIff o (1 ≤ link) (link - 1) → as_link o ≡ link
+linked_on link None none = omega (arith, none)
+linked_on link (Some p) some = omega (arith, some.0, some.1)

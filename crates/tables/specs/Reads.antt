@@ -1,5 +1,5 @@
 -- What is read from table memory, field by field, whatever its bytes are. Assumes nothing: these are definitions.
-use Rattle.std.specs.Prelude.{Bool, cond, List, ℕ, ◌+◌, ◌*◌, ◌/◌, ◌%◌, ◌≤◌, ltb, leb, eqb, length, get_or}
+use Rattle.std.specs.Prelude.{Bool, cond, List, ℕ, ◌+◌, ◌*◌, ◌/◌, ◌%◌, ◌≤◌, ltb, leb, eqb, length, get_or, Option, Some, None}
 use Rattle.lent.specs.Numbers.{number_at}
 use Rattle.tables.specs.Layout.{states_at, dense_at, pieces_at, phrases_at, mark_at, column_at, info_at, out_at, depth_at, label_at, fail_at, child_at}
 use Rattle.tables.specs.Layout.{piece_at, phrase_at, room_for_pieces}
@@ -64,6 +64,11 @@ first_child_in t i = number_at 2 t (child_at + 2 * i)
 -- Some keyword is a suffix of it.
 unfoldable pub ending_in : List ℕ → ℕ → Bool
 ending_in t i = leb 128 (info_in t i)
+
+-- The link that says which piece to look at, if any: one more than that piece, 0 for none.
+abbrev pub as_link : Option ℕ → ℕ
+as_link None = 0
+as_link (Some p) = p + 1
 
 -- The link to the first piece that ends in it: one more than that piece, 0 where none does.
 unfoldable pub first_link_in : List ℕ → ℕ → ℕ

@@ -16,4 +16,4 @@ pub returns : goal.returns
 unfolding tables_tag
 returns c =
     let t = c.args.t.now in
-    c.counts_pass.ensures ∙ sym (pass_counts t c.if-t-lt-SIZE.false (sym c.get8.ensures ∙ c.if-get8-ne-TABLES_TAG.false))
+    rw (← c.of.ensures) c.counts_pass.ensures ∙ sym (pass_counts t c.if-t-lt-SIZE.false (sym c.get8.ensures ∙ c.if-get8-ne-TABLES_TAG.false))

@@ -1,8 +1,0 @@
--- The place that is read is that of the state, whose index is its number.
--- Assumes nothing.
-use mathlib.Core.Path.{ap}
-use Rattle.tables.specs.Reads.{label_in}
-use Rattle.tables.proofs.label.Goals as goal
-
-pub returns : goal.returns
-returns c = ap (label_in c.args.t.now) c.index.ensures.0
