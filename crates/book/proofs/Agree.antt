@@ -17,10 +17,10 @@ use Rattle.format.specs.Judged.{gap_of, phrase_of, onward}
 use Rattle.format.proofs.Tests.{or_cases}
 use Rattle.format.proofs.Bodies.{keyword_only}
 use Rattle.format.proofs.Counted.{keywords_named, keywords_further}
-use Rattle.records.specs.declared.records.Found.TheVariants.{Keyword}
-use Rattle.records.specs.Records.{body_at, cursor_at, whole_at}
-use Rattle.records.specs.Prefixes.{keyword_in, keywords_before}
-use Rattle.book.specs.Judging.{found_turn}
+use Rattle.records.specs.declared.records.Record.TheVariants.{Keyword}
+use Rattle.records.specs.Records.{body_at, whole_at}
+use Rattle.records.specs.Prefixes.{keyword_of, keywords_before}
+use Rattle.book.specs.Judging.{record_turn}
 use Rattle.book.specs.Tallies.{tally_of, turn_for}
 use Rattle.book.proofs.TurnByTests.{header_fault, phrase_fault, bounded_fault, open_fault, end_fault, keyword_fault}
 use Rattle.book.proofs.TurnByTests.{header_turn_lem, phrase_turn_lem, bounded_turn_lem, open_turn_lem, end_turn_lem, keyword_turn_lem}
@@ -28,9 +28,9 @@ use Rattle.book.proofs.TurnByTests.{header_turn_lem, phrase_turn_lem, bounded_tu
 module _ (bytes : List ℕ) (at : ℕ) where
   -- A whole record of kind k: its turn is that of its first fault, and it adds its keyword to those of the stage.
   pub record Agrees (stage : Stage) (k : ℕ) : Type 0 where
-    pub turn : found_turn bytes at (tally_of stage) (whole_at bytes at k)
+    pub turn : record_turn bytes at (tally_of stage) (whole_at bytes at k).says
         ≡ turn_for (first_fault stage (k ∷ drop (at + 1) bytes)) (onward stage k (take (body_length k) (drop (at + 1) bytes)))
-    pub words : keywords (phrases_at (onward stage k (take (body_length k) (drop (at + 1) bytes)))) ≡ keywords (phrases_at stage) ++ keyword_in bytes (whole_at bytes at k)
+    pub words : keywords (phrases_at (onward stage k (take (body_length k) (drop (at + 1) bytes)))) ≡ keywords (phrases_at stage) ++ keyword_of bytes (whole_at bytes at k).says
 
   abbrev Long : ℕ → Type 0
   Long k = body_length k ≤ length (drop (at + 1) bytes)
@@ -43,7 +43,7 @@ module _ (bytes : List ℕ) (at : ℕ) where
   body k = take (body_length k) (drop (at + 1) bytes)
 
   header_agrees : Long header_kind → Agrees start header_kind
-  unfolding found_turn whole_at body_at phrases_at onward keywords keyword_in
+  unfolding record_turn whole_at body_at phrases_at onward keywords keyword_of
   header_agrees long = record {
     turn = rw (header_fault behind long) (header_turn_lem (get_or (body header_kind) 0 0));
     words = refl;
@@ -51,7 +51,7 @@ module _ (bytes : List ℕ) (at : ℕ) where
 
   phrase_agrees : (stage : Stage) → So (allowed stage phrase_kind) → onward stage phrase_kind (body phrase_kind) ≡ named (phrases_at stage) (phrase_of (body phrase_kind))
       → Long phrase_kind → Agrees stage phrase_kind
-  unfolding found_turn whole_at body_at phrases_at keyword_in phrase_of
+  unfolding record_turn whole_at body_at phrases_at keyword_of phrase_of
   phrase_agrees stage allows goes long = record {
     turn = rw (phrase_fault behind stage allows long, goes) (phrase_turn_lem stage (body phrase_kind));
     words = rw goes (keywords_named (phrases_at stage) (phrase_of (body phrase_kind)) refl ∙ sym (append-nil (keywords (phrases_at stage))));
@@ -61,7 +61,7 @@ module _ (bytes : List ℕ) (at : ℕ) where
   module _ (stage : Stage) (phrases : List Phrase) (phrase : Phrase) (is : phrases_at stage ≡ phrases ++ phrase ∷ []) (own : pieces_at stage ≡ phrase.pieces) where
     bounded_agrees : So (allowed stage bounded_kind) → onward stage bounded_kind (body bounded_kind) ≡ gapped phrases phrase (gap_of bounded_kind (body bounded_kind))
         → Long bounded_kind → Agrees stage bounded_kind
-    unfolding found_turn whole_at body_at phrases_at keyword_in
+    unfolding record_turn whole_at body_at phrases_at keyword_of
     bounded_agrees allows goes long = record {
       turn = rw (bounded_fault behind stage allows long, goes)
           (bounded_turn_lem stage phrases phrase (gap_of bounded_kind (body bounded_kind)) is own (two (body bounded_kind) 0) (two (body bounded_kind) 2));
@@ -70,26 +70,26 @@ module _ (bytes : List ℕ) (at : ℕ) where
 
     open_agrees : So (allowed stage open_kind) → onward stage open_kind (body open_kind) ≡ gapped phrases phrase (gap_of open_kind (body open_kind))
         → Long open_kind → Agrees stage open_kind
-    unfolding found_turn whole_at body_at phrases_at keyword_in
+    unfolding record_turn whole_at body_at phrases_at keyword_of
     open_agrees allows goes long = record {
       turn = rw (open_fault behind stage allows long, goes) (open_turn_lem stage phrases phrase (gap_of open_kind (body open_kind)) is own (two (body open_kind) 0));
       words = rw goes (ap keywords (sym is) ∙ sym (append-nil (keywords (phrases_at stage))));
     }
 
   end_agrees : (phrases : List Phrase) (phrase : Phrase) → Long end_kind → Agrees (worded phrases phrase) end_kind
-  unfolding found_turn whole_at body_at phrases_at onward keyword_in allowed
+  unfolding record_turn whole_at body_at phrases_at onward keyword_of allowed
   end_agrees phrases phrase long = record {
     turn = rw (end_fault behind (worded phrases phrase) refl long) (end_turn_lem phrases phrase (two (body end_kind) 0));
     words = sym (append-nil (keywords (phrases ++ phrase ∷ [])));
   }
 
-  keyword_is : (k : ℕ) → So (is_keyword k) → whole_at bytes at k ≡ Keyword (at + 1) (body_length k) (cursor_at (at + (1 + body_length k)))
+  keyword_is : (k : ℕ) → So (is_keyword k) → (whole_at bytes at k).says ≡ Keyword (at + 1) (body_length k)
   unfolding whole_at
   keyword_is k h = simp (keyword_only k h)
 
   keyword_agrees : (phrases : List Phrase) (phrase : Phrase) (gap : Gap) → keywords_before bytes at ≡ keywords (phrases ++ phrase ∷ [])
       → (k : ℕ) → So (is_keyword k) → Long k → Agrees (gapped phrases phrase gap) k
-  unfolding found_turn phrases_at onward keyword_in allowed
+  unfolding record_turn phrases_at onward keyword_of allowed
   keyword_agrees phrases phrase gap before k h long = record {
     turn = rw (keyword_is k h, keyword_fault behind (gapped phrases phrase gap) k h h long)
         (keyword_turn_lem at bytes phrases phrase gap before (at + 1) (body_length k) (length-take-le (body_length k) behind long));

@@ -1,5 +1,4 @@
 pub mod Tests
-pub mod OneTurn
 pub mod Tallied
 pub mod TurnByTests
 pub mod Agree

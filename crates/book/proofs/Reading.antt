@@ -29,14 +29,14 @@ use Rattle.records.specs.Records.{read_at}
 use Rattle.records.specs.Readers.{past_of}
 use Rattle.records.specs.Prefixes.{keywords_before}
 use Rattle.records.proofs.Walk.{Walk, here, walked_before}
-use Rattle.book.specs.declared.answers.Judged.{Judged}
-use Rattle.book.specs.declared.answers.Judged.TheVariants as answer
+use Rattle.std.proofs.Common.{Result, Ok, Err}
+use Rattle.records.specs.declared.refusals.Refused.{Refused}
+use Rattle.book.specs.declared.answers.Accepted.{Accepted}
 use Rattle.book.specs.declared.progress.Stage as code
 use Rattle.book.specs.declared.progress.Stage.TheVariants.{Start}
 use Rattle.book.specs.declared.progress.Tally.{Tally}
-use Rattle.book.specs.declared.progress.Turn.{Turn}
-use Rattle.book.specs.declared.progress.Turn.TheVariants.{Next, Refused}
-use Rattle.book.specs.Judging.{Small, turn_at, stop_answer}
+use Rattle.book.specs.declared.progress.Reached.{Reached}
+use Rattle.book.specs.Judging.{Small, Turn, to, turn_at, stop_answer}
 use Rattle.book.specs.Tallies.{name_of, tally_of, turn_for}
 use Rattle.book.specs.Answers.{said_by, JudgedRight}
 use Rattle.book.proofs.Tallied.{start_tally, tally_small}
@@ -76,8 +76,8 @@ reading_small r = rw r.keeps (tally_small r.stage r.within)
 
 -- What comes of a turn: reading goes on further ahead, or the answer is the document's.
 abbrev pub Comes : List ℕ → ℕ → Turn → Type 0
-Comes bytes at (Next name tally) = (at < past_of (read_at bytes at) at) × Reading bytes (past_of (read_at bytes at) at) name tally
-Comes bytes at (Refused why) = said_by (answer.Refused why at) ≡ answer_of (judged bytes)
+Comes bytes at (Ok reached) = (at < past_of (read_at bytes at) at) × Reading bytes (past_of (read_at bytes at) at) reached.stage reached.tally
+Comes bytes at (Err why) = said_by (Err (record { why = why; at = at })) ≡ answer_of (judged bytes)
 
 -- ── What comes of a turn ──
 
@@ -104,11 +104,11 @@ goes_on_lem fuel stage at k behind e =
     ap (λ (o : Option format.Refusal). answered o at (judged_from fuel (onward stage k (take (body_length k) behind)) (at + (1 + body_length k)) (drop (body_length k) behind))) e
 
 -- What says what the document does is right.
-judged_right : (bytes : List ℕ) → Bytes bytes → {answer : Judged} → said_by answer ≡ answer_of (judged bytes) → JudgedRight bytes answer
+judged_right : (bytes : List ℕ) → Bytes bytes → {answer : Result Accepted Refused} → said_by answer ≡ answer_of (judged bytes) → JudgedRight bytes answer
 judged_right bytes in_bytes e = record { exact = e; meant = record { judgement = judged bytes; true_of = judged_judges bytes in_bytes; said = e } }
 
 module _ (bytes : List ℕ) (in_bytes : Bytes bytes) (at : ℕ) {name : code.Stage} {tally : Tally} (r : Reading bytes at name tally) where
-  pub stops_right : length bytes ≤ at → {answer : Judged} → answer ≡ stop_answer name tally at → JudgedRight bytes answer
+  pub stops_right : length bytes ≤ at → {answer : Result Accepted Refused} → answer ≡ stop_answer name tally at → JudgedRight bytes answer
   stops_right past is =
       judged_right bytes in_bytes (rw (is, r.reached, r.keeps) (stop_answers r.stage at
       ∙ ap answer_of (at_end r.fuel r.stage at ∙ ap (judged_from r.fuel r.stage at) (sym (drop_of_length-le bytes past)) ∙ r.rest)))
@@ -120,7 +120,7 @@ module _ (bytes : List ℕ) (in_bytes : Bytes bytes) (at : ℕ) {name : code.Sta
     split : drop at bytes ≡ get_or bytes at 0 ∷ drop (at + 1) bytes
     split = rw (add-one at) (drop-cons bytes at 0 inside)
 
-    refuses_right : (why : format.Refusal) → first_fault r.stage (drop at bytes) ≡ some why → Comes bytes at (Refused (refusal_for why))
+    refuses_right : (why : format.Refusal) → first_fault r.stage (drop at bytes) ≡ some why → Comes bytes at (Err (refusal_for why))
     unfolding said_by answer_of
     refuses_right why e =
         ap (λ (w : format.Refusal). record { number = refusal_number w; offset = at; phrases = 0 }) (refusal_said why)
@@ -162,7 +162,7 @@ module _ (bytes : List ℕ) (in_bytes : Bytes bytes) (at : ℕ) {name : code.Sta
                 ∙ ap (judged_from (suc n) r.stage at) (sym split) ∙ rest;
           }
 
-      goes_on_right : Comes bytes at (Next (name_of on) (tally_of on))
+      goes_on_right : Comes bytes at (to (name_of on) (tally_of on))
       goes_on_right = rw (passed bytes at inside r.stage before e) (omega arith, goes_right)
 
     reading_comes : Comes bytes at (turn_at bytes at name tally (read_at bytes at))
@@ -175,12 +175,12 @@ module _ (bytes : List ℕ) (in_bytes : Bytes bytes) (at : ℕ) {name : code.Sta
         go none e = goes_on_right e
 
     -- What was found there, and the turn that the code took for it.
-    module _ {found : Found} (is : found ≡ read_at bytes at) {turn : Turn} (took : turn ≡ turn_at bytes at name tally found) where
+    module _ {found : Result Found Refused} (is : found ≡ read_at bytes at) {turn : Turn} (took : turn ≡ turn_at bytes at name tally found) where
       comes_as : {told : Turn} → turn ≡ told → Comes bytes at told
       comes_as tells = subst (λ (turn : Turn). Comes bytes at turn) (ap (turn_at bytes at name tally) (sym is) ∙ sym took ∙ tells) reading_comes
 
-      pub goes_as : {reached : code.Stage} {further : Tally} → turn ≡ Next reached further → {next : ℕ} → next ≡ past_of found at → (at < next) × Reading bytes next reached further
+      pub goes_as : {reached : Reached} → turn ≡ Ok reached → {next : ℕ} → next ≡ past_of found at → (at < next) × Reading bytes next reached.stage reached.tally
       goes_as tells there = rw (there, is) (comes_as tells)
 
-      pub refused_as : {why : Refusal} → turn ≡ Refused why → JudgedRight bytes (answer.Refused why at)
+      pub refused_as : {why : Refusal} → turn ≡ Err why → JudgedRight bytes (Err (record { why = why; at = at }))
       refused_as tells = judged_right bytes in_bytes (comes_as tells)

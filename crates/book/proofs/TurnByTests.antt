@@ -25,7 +25,7 @@ use Rattle.format.proofs.FirstFault as faults
 use Rattle.counters.specs.Counters.{number_of}
 use Rattle.records.specs.Refusals.{refusal_for}
 use Rattle.records.specs.Prefixes.{keywords_before}
-use Rattle.book.specs.declared.progress.Turn.TheVariants.{Refused}
+use Rattle.std.proofs.Common.{Err}
 use Rattle.book.specs.Judging.{header_turn, phrase_turn, gap_turn, bounded_turn, open_turn, prefixes_with, keyword_turn, end_turn}
 use Rattle.book.specs.Tallies.{name_of, tally_of, turn_for}
 use Rattle.book.proofs.Tests.{one_by_one, not_at_most}
@@ -77,7 +77,7 @@ module _ (behind : List ℕ) where
 
 -- A test that holds refuses, and else the turn goes by the tests behind it.
 refuses : (test : Bool) (why : Refusal) (others : Option Refusal) (stage : Stage)
-    → turn_for (cond test (some why) others) stage ≡ cond test (Refused (refusal_for why)) (turn_for others stage)
+    → turn_for (cond test (some why) others) stage ≡ cond test (Err (refusal_for why)) (turn_for others stage)
 unfolding turn_for
 refuses true why others stage = refl
 refuses false why others stage = refl

@@ -20,11 +20,14 @@ use Rattle.format.specs.Judged.{onward}
 use Rattle.format.proofs.Tests.{or_cases}
 use Rattle.format.proofs.Bodies.{keyword_only}
 use Rattle.format.proofs.FirstFault.{kind_fault, cut_fault, stands_iff}
+use Rattle.std.proofs.Common.{Result, Ok}
 use Rattle.records.specs.declared.records.Found.{Found}
+use Rattle.records.specs.declared.refusals.Refused.{Refused}
 use Rattle.records.specs.Refusals.{refusal_for}
-use Rattle.records.specs.Records.{known, whole_at, read_at}
+use Rattle.records.specs.Records.{whole_at, read_at}
+use Rattle.records.specs.Kinds.{known}
 use Rattle.records.specs.Readers.{past_of}
-use Rattle.records.specs.Prefixes.{keywords_before}
+use Rattle.records.specs.Prefixes.{keyword_of, keyword_in, keywords_before}
 use Rattle.records.proofs.Standing.{read_cut, read_whole}
 use Rattle.records.proofs.Shared.{whole_next}
 use Rattle.records.proofs.Walk.{Ends, Walk, walk_further}
@@ -99,14 +102,18 @@ module _ (bytes : List ℕ) (at : ℕ) (inside : at < length bytes) where
       pub long : body_length k ≤ length behind
       long = omega (arith, length-take (body_length k) behind, whole.whole)
 
-      read_it : read_at bytes at ≡ whole_at bytes at k
+      read_it : read_at bytes at ≡ Ok (whole_at bytes at k)
       read_it = sym (read_whole bytes at inside (allowed_known stage k whole.allows) long)
 
       ends : Ends bytes at next
-      ends = record { ahead = omega arith; there = λ end. ap (λ (found : Found). past_of found end) read_it ∙ whole_next bytes at k end }
+      ends = record { ahead = omega arith; there = λ end. ap (λ (found : Result Found Refused). past_of found end) read_it ∙ whole_next bytes at k }
 
       pub passed : past_of (read_at bytes at) at ≡ next
       passed = ends.there at
 
+      word : keyword_of bytes (whole_at bytes at k).says ≡ keyword_in bytes (read_at bytes at)
+      unfolding keyword_in
+      word = ap (keyword_in bytes) (sym read_it)
+
       pub further : Walk bytes 0 at (keywords (phrases_at stage)) → Walk bytes 0 next (keywords (phrases_at (onward stage k body)))
-      further walk = rw ((record_agrees bytes at stage k whole.allows before long).words, ← read_it) (walk_further walk ends)
+      further walk = rw ((record_agrees bytes at stage k whole.allows before long).words, word) (walk_further walk ends)

@@ -1,23 +1,24 @@
 -- One turn of judge, as the code takes it: each record's tests in order, and what is counted of the book behind it.
 -- Assumes nothing: these are definitions.
-use Rattle.std.specs.Prelude.{Bool, true, false, not, cond, ◌&&◌, ◌||◌, List, ℕ, ◌+◌, ◌-◌, ◌≤◌, leb, ltb, eqb, get_or}
+use Rattle.std.specs.Prelude.{Bool, true, false, not, cond, ◌&&◌, ◌||◌, List, ℕ, ◌+◌, ◌-◌, ◌≤◌, leb, ltb, eqb, get_or, Result, Ok, Err}
 use Rattle.meaning.specs.Matching.{bytes_after}
 use Rattle.counters.specs.declared.Number.{Number}
 use Rattle.format.specs.Prefixes.{most_shared}
 use Rattle.format.specs.Limits.{the_edition, most_number, most_rights, most_least, most_most, most_phrases, most_pieces_of_phrase, most_pieces, most_prefixes}
 use Rattle.format.specs.Written.{header_kind, phrase_kind, end_kind}
 use Rattle.format.specs.Faults.{is_gap, is_keyword, between}
+use Rattle.records.specs.declared.refusals.Refusal.{Refusal}
 use Rattle.records.specs.declared.refusals.Refusal.TheVariants.{Cut, Kind, Field, Crossed, Order, Many, Total, Full}
+use Rattle.records.specs.declared.refusals.Refused.{Refused}
+use Rattle.records.specs.declared.records.Record.{Record}
+use Rattle.records.specs.declared.records.Record.TheVariants as says
 use Rattle.records.specs.declared.records.Found.{Found}
-use Rattle.records.specs.declared.records.Found.TheVariants as found
 use Rattle.records.specs.Prefixes.{keywords_before}
-use Rattle.book.specs.declared.answers.Judged.{Judged}
-use Rattle.book.specs.declared.answers.Judged.TheVariants as judged
+use Rattle.book.specs.declared.answers.Accepted.{Accepted}
 use Rattle.book.specs.declared.progress.Stage.{Stage}
 use Rattle.book.specs.declared.progress.Stage.TheVariants.{Start, Headed, Named, Gapped, Worded, Ended}
 use Rattle.book.specs.declared.progress.Tally.{Tally}
-use Rattle.book.specs.declared.progress.Turn.{Turn}
-use Rattle.book.specs.declared.progress.Turn.TheVariants.{Next, Refused}
+use Rattle.book.specs.declared.progress.Reached.{Reached}
 
 -- What is counted is within the limits.
 pub record Small (tally : Tally) : Type 0 where
@@ -46,32 +47,39 @@ may_stop_at Ended = true
 
 -- ── Each record ──
 
+-- What comes of a record: it stands, and leads to a stage and a tally, or it is refused.
+abbrev pub Turn : Type 0
+Turn = Result Reached Refusal
+
+abbrev pub to : Stage → Tally → Turn
+to stage tally = Ok (record { stage = stage; tally = tally })
+
 -- Each definition takes the tally of what was read before, and the record's fields.
 
 -- The edition must be 1.
 unfoldable pub header_turn : Tally → ℕ → Turn
-header_turn tally edition = cond (not (eqb edition the_edition)) (Refused Field) (Next Headed tally)
+header_turn tally edition = cond (not (eqb edition the_edition)) (Err Field) (to Headed tally)
 
 -- Phrase number 1 to 65,535, rights code 1 to 12; the number above the one before; at most 128 phrases.
 unfoldable pub phrase_turn : Tally → Number → ℕ → Turn
 phrase_turn tally number rights =
-    cond (not (between 1 most_number number.0 && between 1 most_rights rights)) (Refused Field)
-    (cond (leb number.0 tally.last.0) (Refused Order)
-    (cond (leb most_phrases tally.phrases) (Refused Many)
-    (Next Named (record { phrases = tally.phrases + 1; last = number; own = 0; pieces = tally.pieces; prefixes = tally.prefixes }))))
+    cond (not (between 1 most_number number.0 && between 1 most_rights rights)) (Err Field)
+    (cond (leb number.0 tally.last.0) (Err Order)
+    (cond (leb most_phrases tally.phrases) (Err Many)
+    (to Named (record { phrases = tally.phrases + 1; last = number; own = 0; pieces = tally.pieces; prefixes = tally.prefixes }))))
 
 -- At most 8 pieces in a phrase and 256 in a book; a gap is the first record of its piece.
 unfoldable pub gap_turn : Tally → Turn
-gap_turn tally = cond (leb most_pieces_of_phrase tally.own || leb most_pieces tally.pieces) (Refused Many) (Next Gapped tally)
+gap_turn tally = cond (leb most_pieces_of_phrase tally.own || leb most_pieces tally.pieces) (Err Many) (to Gapped tally)
 
 -- Least 0 to 224, most 0 to 60,000, and least not above most.
 unfoldable pub bounded_turn : Tally → ℕ → ℕ → Turn
 bounded_turn tally least most =
-    cond (ltb most_least least) (Refused Field) (cond (ltb most_most most) (Refused Field) (cond (ltb most least) (Refused Crossed) (gap_turn tally)))
+    cond (ltb most_least least) (Err Field) (cond (ltb most_most most) (Err Field) (cond (ltb most least) (Err Crossed) (gap_turn tally)))
 
 -- An open gap has no most.
 unfoldable pub open_turn : Tally → ℕ → Turn
-open_turn tally least = cond (ltb most_least least) (Refused Field) (gap_turn tally)
+open_turn tally least = cond (ltb most_least least) (Err Field) (gap_turn tally)
 
 -- How many different prefixes there are with the keyword of so many bytes from an offset on, whose record is at an offset: those
 -- before, and its length less what it shares with an earlier keyword.
@@ -81,8 +89,8 @@ prefixes_with bytes tally start count at = tally.prefixes + (count - most_shared
 -- At most 2,047 different nonempty prefixes of keywords. With its keyword a piece is whole, and is counted.
 unfoldable pub keyword_turn : List ℕ → Tally → ℕ → ℕ → ℕ → Turn
 keyword_turn bytes tally start count at =
-    cond (ltb most_prefixes (prefixes_with bytes tally start count at)) (Refused Full)
-    (Next Worded (record {
+    cond (ltb most_prefixes (prefixes_with bytes tally start count at)) (Err Full)
+    (to Worded (record {
       phrases = tally.phrases;
       last = tally.last;
       own = tally.own + 1;
@@ -93,27 +101,32 @@ keyword_turn bytes tally start count at =
 -- The end record's number is the number of phrases.
 unfoldable pub end_turn : Tally → ℕ → Turn
 end_turn tally count =
-    cond (not (eqb count tally.phrases)) (Refused Total)
-    (Next Ended (record { phrases = tally.phrases; last = tally.last; own = 0; pieces = tally.pieces; prefixes = tally.prefixes }))
+    cond (not (eqb count tally.phrases)) (Err Total)
+    (to Ended (record { phrases = tally.phrases; last = tally.last; own = 0; pieces = tally.pieces; prefixes = tally.prefixes }))
 
 -- ── Any record ──
 
--- What was found at an offset is judged by what it is.
-unfoldable pub found_turn : List ℕ → ℕ → Tally → Found → Turn
+-- A record is judged by what it is.
+unfoldable pub record_turn : List ℕ → ℕ → Tally → Record → Turn
 unfolding header_turn phrase_turn bounded_turn open_turn keyword_turn end_turn
-found_turn bytes at tally (found.Header edition next) = header_turn tally edition
-found_turn bytes at tally (found.Phrase number rights next) = phrase_turn tally number rights
-found_turn bytes at tally (found.Bounded least most next) = bounded_turn tally least most
-found_turn bytes at tally (found.Open least next) = open_turn tally least
-found_turn bytes at tally (found.Keyword start count next) = keyword_turn bytes tally start count at
-found_turn bytes at tally (found.End count next) = end_turn tally count
-found_turn bytes at tally (found.Refused why offset) = Refused why
+record_turn bytes at tally (says.Header edition) = header_turn tally edition
+record_turn bytes at tally (says.Phrase number rights) = phrase_turn tally number rights
+record_turn bytes at tally (says.Bounded least most) = bounded_turn tally least most
+record_turn bytes at tally (says.Open least) = open_turn tally least
+record_turn bytes at tally (says.Keyword start count) = keyword_turn bytes tally start count at
+record_turn bytes at tally (says.End count) = end_turn tally count
+
+-- What was found at an offset: a record is judged, and what is no record is refused.
+unfoldable pub found_turn : List ℕ → ℕ → Tally → Result Found Refused → Turn
+unfolding record_turn
+found_turn bytes at tally (Ok found) = record_turn bytes at tally found.says
+found_turn bytes at tally (Err refused) = Err refused.why
 
 -- The kind is looked at before anything else.
-unfoldable pub turn_at : List ℕ → ℕ → Stage → Tally → Found → Turn
+unfoldable pub turn_at : List ℕ → ℕ → Stage → Tally → Result Found Refused → Turn
 unfolding allowed_of found_turn
-turn_at bytes at stage tally found = cond (not (allowed_of stage (get_or bytes at 0))) (Refused Kind) (found_turn bytes at tally found)
+turn_at bytes at stage tally found = cond (not (allowed_of stage (get_or bytes at 0))) (Err Kind) (found_turn bytes at tally found)
 
 -- The answer where the book stops at an offset.
-unfoldable pub stop_answer : Stage → Tally → ℕ → Judged
-stop_answer stage tally at = cond (may_stop_at stage) (judged.Accepted at tally.phrases) (judged.Refused Cut at)
+unfoldable pub stop_answer : Stage → Tally → ℕ → Result Accepted Refused
+stop_answer stage tally at = cond (may_stop_at stage) (Ok (record { length = at; phrases = tally.phrases })) (Err (record { why = Cut; at = at }))

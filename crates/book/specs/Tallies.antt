@@ -1,6 +1,6 @@
 -- What judge keeps of a stage: how far the book has been read, and what is counted of it. Assumes nothing: these are definitions.
 use Rattle.std.proofs.Math.Option.{Option, none, some}
-use Rattle.std.specs.Prelude.{length}
+use Rattle.std.specs.Prelude.{length, Err}
 use Rattle.meaning.specs.Books.{keywords}
 use Rattle.format.specs.Prefixes.{prefix_count}
 use Rattle.format.specs.Limits.{piece_count}
@@ -13,8 +13,7 @@ use Rattle.records.specs.Refusals.{refusal_for}
 use Rattle.book.specs.declared.progress.Stage.{Stage}
 use Rattle.book.specs.declared.progress.Stage.TheVariants.{Start, Headed, Named, Gapped, Worded, Ended}
 use Rattle.book.specs.declared.progress.Tally.{Tally}
-use Rattle.book.specs.declared.progress.Turn.{Turn}
-use Rattle.book.specs.declared.progress.Turn.TheVariants.{Next, Refused}
+use Rattle.book.specs.Judging.{Turn, to}
 
 -- What was read last at a stage.
 unfoldable pub name_of : format.Stage → Stage
@@ -38,5 +37,5 @@ tally_of stage = record {
 
 -- The turn for a record: a first fault refuses it, and without one judge goes on, with what is kept of the stage behind this record.
 unfoldable pub turn_for : Option Refusal → format.Stage → Turn
-turn_for (some why) stage = Refused (refusal_for why)
-turn_for none stage = Next (name_of stage) (tally_of stage)
+turn_for (some why) stage = Err (refusal_for why)
+turn_for none stage = to (name_of stage) (tally_of stage)

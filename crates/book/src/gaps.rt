@@ -4,7 +4,7 @@ ghost use Rattle.format.specs.Limits.{most_pieces_of_phrase, most_pieces};
 ghost use Rattle.book.specs.Judging.{gap_turn, bounded_turn, open_turn};
 
 use crate::limits::{MOST_LEAST, MOST_MOST, MOST_PIECES, MOST_PIECES_OF_PHRASE};
-use crate::progress::{Stage, Tally, Turn};
+use crate::progress::{Reached, Stage, Tally};
 use records::Refusal;
 
 // Would one piece more be the ninth of its phrase or the 257th of the book?
@@ -15,48 +15,40 @@ fn no_room(tally: Tally) -> bool
 }
 
 // A gap whose fields stand. It is the first record of its piece.
-fn gap(tally: Tally) -> Turn
+#[tactic(auto, unfolding(crate::specs::Judging::gap_turn))]
+fn gap(tally: Tally) -> Result<Reached, Refusal>
     ensures { result ≡ gap_turn tally }
 {
     if no_room(tally) {
-        return Turn::Refused { why: Refusal::Many };
+        return Err(Refusal::Many);
     }
-    Turn::Next {
+    Ok(Reached {
         stage: Stage::Gapped,
         tally,
-    }
+    })
 }
 
 // A bounded gap.
-pub fn bounded(tally: Tally, least: u16, most: u16) -> Turn
+#[tactic(auto, unfolding(crate::specs::Judging::bounded_turn))]
+pub fn bounded(tally: Tally, least: u16, most: u16) -> Result<Reached, Refusal>
     ensures { result ≡ bounded_turn tally least most }
 {
-    if MOST_LEAST < least {
-        return Turn::Refused {
-            why: Refusal::Field,
-        };
-    }
-    if MOST_MOST < most {
-        return Turn::Refused {
-            why: Refusal::Field,
-        };
+    if MOST_LEAST < least || MOST_MOST < most {
+        return Err(Refusal::Field);
     }
     if most < least {
-        return Turn::Refused {
-            why: Refusal::Crossed,
-        };
+        return Err(Refusal::Crossed);
     }
     gap(tally)
 }
 
 // An open gap, the same without a most.
-pub fn open(tally: Tally, least: u16) -> Turn
+#[tactic(auto, unfolding(crate::specs::Judging::open_turn))]
+pub fn open(tally: Tally, least: u16) -> Result<Reached, Refusal>
     ensures { result ≡ open_turn tally least }
 {
     if MOST_LEAST < least {
-        return Turn::Refused {
-            why: Refusal::Field,
-        };
+        return Err(Refusal::Field);
     }
     gap(tally)
 }

@@ -4,76 +4,61 @@ ghost use Rattle.records.specs.Prefixes.{Inside};
 ghost use Rattle.book.specs.Judging.{Small, turn_at};
 ghost use Rattle.book.specs.Answers.{JudgedRight};
 
-use crate::answers::Judged;
+use crate::answers::Accepted;
 use crate::gaps::{bounded, open};
 use crate::phrases::phrase;
-use crate::progress::{Stage, Tally, Turn, is_allowed};
+use crate::progress::{Reached, Stage, Tally};
 use crate::turns::{end, header, keyword, stop};
 use counters::Number;
-use records::{Cursor, Found, Refusal, past, read};
+use records::{Found, Reader, Record, Refusal, Refused};
 
 // What comes of what was found at an offset. The kind is looked at before anything else.
-fn turn_at(book: &[u8], at: usize, stage: Stage, tally: Tally, found: Found) -> Turn
-    requires small { Small tally }
+#[tactic(auto, unfolding(crate::specs::Judging::turn_at, crate::specs::Judging::found_turn, crate::specs::Judging::record_turn))]
+fn turn_at(
+    book: &[u8],
+    at: usize,
+    reached: Reached,
+    found: Result<Found, Refused>,
+) -> Result<Reached, Refusal>
+    requires small { Small reached.tally }
     requires at_in_bounds { at < length book.now }
     requires inside { Inside book.now found }
-    ensures { result ≡ turn_at book.now at stage tally found }
+    ensures { result ≡ turn_at book.now at reached.stage reached.tally found }
 {
-    if !is_allowed(stage, book[at]) {
-        return Turn::Refused { why: Refusal::Kind };
+    if !reached.stage.allows(book[at]) {
+        return Err(Refusal::Kind);
     }
-    match found {
-        Found::Header { edition, next: _ } => header(tally, edition),
-        Found::Phrase {
-            number,
-            rights,
-            next: _,
-        } => phrase(tally, number, rights),
-        Found::Bounded {
-            least,
-            most,
-            next: _,
-        } => bounded(tally, least, most),
-        Found::Open { least, next: _ } => open(tally, least),
-        Found::Keyword {
-            start,
-            length,
-            next: _,
-        } => keyword(book, tally, start, length, at),
-        Found::End { count, next: _ } => end(tally, count),
-        Found::Refused { why, at: _ } => Turn::Refused { why },
+    let tally = reached.tally;
+    let found = found?;
+    match found.says {
+        Record::Header { edition } => header(tally, edition),
+        Record::Phrase { number, rights } => phrase(tally, number, rights),
+        Record::Bounded { least, most } => bounded(tally, least, most),
+        Record::Open { least } => open(tally, least),
+        Record::Keyword { start, length } => keyword(book, tally, start, length, at),
+        Record::End { count } => end(tally, count),
     }
 }
 
 // Whether the bytes are a book within the limits, or why and where they are refused. Nothing but the book is read.
-pub fn judge(book: &[u8]) -> Judged
+pub fn judge(book: &[u8]) -> Result<Accepted, Refused>
     ensures { JudgedRight book.now result }
 {
-    let mut at = 0;
-    let mut stage = Stage::Start;
-    let mut tally = Tally {
-        phrases: 0,
-        last: Number::NONE,
-        own: 0,
-        pieces: 0,
-        prefixes: 0,
+    let mut reader = Reader { book, at: 0 };
+    let mut reached = Reached {
+        stage: Stage::Start,
+        tally: Tally {
+            phrases: 0,
+            last: Number::NONE,
+            own: 0,
+            pieces: 0,
+            prefixes: 0,
+        },
     };
-    while at < book.len() {
-        let found = read(book, Cursor { at });
-        let next = past(found, at);
-        match turn_at(book, at, stage, tally, found) {
-            Turn::Next {
-                stage: reached,
-                tally: further,
-            } => {
-                at = next;
-                stage = reached;
-                tally = further;
-            }
-            Turn::Refused { why } => {
-                return Judged::Refused { why, at };
-            }
-        }
+    while reader.at < book.len() {
+        let at = reader.at;
+        let found = reader.next();
+        reached = turn_at(book, at, reached, found).map_err(|why| Refused { why, at })?;
     }
-    stop(stage, tally, at)
+    stop(reached, reader.at)
 }

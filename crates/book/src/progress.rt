@@ -3,11 +3,10 @@ ghost use Rattle.std.specs.Prelude.{◌≡◌};
 ghost use Rattle.book.specs.Judging.{allowed_of, may_stop_at};
 
 use counters::Number;
-use records::Refusal;
-use records::kinds::{END_KIND, HEADER_KIND, PHRASE_KIND, is_gap, is_keyword};
+use records::Kind;
 
 // What was read last.
-#[derive(Clone, Copy)]
+#[derive(Clone, Copy, Debug, PartialEq, Eq)]
 pub enum Stage {
     // nothing
     Start,
@@ -36,44 +35,36 @@ pub struct Tally {
     pub prefixes: usize,
 }
 
-// What comes of a record: it stands, and leads to this stage and tally, or it is refused.
+// How far a book has been read.
 #[derive(Clone, Copy)]
-pub enum Turn {
-    Next { stage: Stage, tally: Tally },
-    Refused { why: Refusal },
+pub struct Reached {
+    pub stage: Stage,
+    pub tally: Tally,
 }
 
-// After a keyword the phrase may end, and so may the book.
-fn may_follow_keyword(kind: u8) -> bool
-    ensures { result ≡ allowed_of Stage.Worded kind }
-{
-    match kind {
-        PHRASE_KIND => true,
-        END_KIND => true,
-        _ => is_gap(kind),
+impl Stage {
+    // May a record whose kind is this byte stand here? After a keyword the phrase may end, and so may the book.
+    #[tactic(auto, unfolding(crate::specs::Judging::allowed_of, format::specs::Faults::is_gap, format::specs::Faults::is_keyword, records::specs::Kinds::known))]
+    pub fn allows(self, byte: u8) -> bool
+        ensures { result ≡ allowed_of self byte }
+    {
+        let Some(kind) = Kind::of(byte) else {
+            return false;
+        };
+        match self {
+            Stage::Start => matches!(kind, Kind::Header),
+            Stage::Headed => matches!(kind, Kind::Phrase),
+            Stage::Named => matches!(kind, Kind::Bounded | Kind::Open),
+            Stage::Gapped => matches!(kind, Kind::Keyword { .. }),
+            Stage::Worded => !matches!(kind, Kind::Header | Kind::Keyword { .. }),
+            Stage::Ended => false,
+        }
     }
-}
 
-// May a record of this kind stand here?
-pub fn is_allowed(stage: Stage, kind: u8) -> bool
-    ensures { result ≡ allowed_of stage kind }
-{
-    match stage {
-        Stage::Start => kind == HEADER_KIND,
-        Stage::Headed => kind == PHRASE_KIND,
-        Stage::Named => is_gap(kind),
-        Stage::Gapped => is_keyword(kind),
-        Stage::Worded => may_follow_keyword(kind),
-        Stage::Ended => false,
-    }
-}
-
-// The book may stop where the end record has been read, and nowhere else.
-pub fn may_stop(stage: Stage) -> bool
-    ensures { result ≡ may_stop_at stage }
-{
-    match stage {
-        Stage::Ended => true,
-        _ => false,
+    // The book may stop where the end record has been read, and nowhere else.
+    pub fn may_stop(self) -> bool
+        ensures { result ≡ may_stop_at self }
+    {
+        matches!(self, Stage::Ended)
     }
 }

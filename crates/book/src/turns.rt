@@ -3,28 +3,35 @@
 ghost use Rattle.std.specs.Prelude.{◌≡◌, ◌+◌, ◌≤◌, length};
 ghost use Rattle.book.specs.Judging.{Small, header_turn, keyword_turn, end_turn, stop_answer};
 
-use crate::answers::Judged;
+use crate::answers::Accepted;
 use crate::limits::{MOST_PREFIXES, THE_EDITION};
-use crate::progress::{Stage, Tally, Turn, may_stop};
-use records::{Refusal, most_shared};
+use crate::progress::{Reached, Stage, Tally};
+use records::{Refusal, Refused, most_shared};
 
-pub fn header(tally: Tally, edition: u8) -> Turn
+// A header.
+#[tactic(auto, unfolding(crate::specs::Judging::header_turn))]
+pub fn header(tally: Tally, edition: u8) -> Result<Reached, Refusal>
     ensures { result ≡ header_turn tally edition }
 {
     if edition != THE_EDITION {
-        return Turn::Refused {
-            why: Refusal::Field,
-        };
+        return Err(Refusal::Field);
     }
-    Turn::Next {
+    Ok(Reached {
         stage: Stage::Headed,
         tally,
-    }
+    })
 }
 
 // A keyword of `count` bytes from `start` on, whose record is at an offset. Prefixes that it shares with an earlier keyword are not
 // new. It ends its piece, which is counted here.
-pub fn keyword(book: &[u8], mut tally: Tally, start: usize, count: usize, at: usize) -> Turn
+#[tactic(auto, unfolding(crate::specs::Judging::keyword_turn, crate::specs::Judging::prefixes_with))]
+pub fn keyword(
+    book: &[u8],
+    mut tally: Tally,
+    start: usize,
+    count: usize,
+    at: usize,
+) -> Result<Reached, Refusal>
     requires small { Small tally }
     requires count_in_bounds { start + count ≤ length book.now }
     requires at_in_bounds { at ≤ length book.now }
@@ -32,44 +39,44 @@ pub fn keyword(book: &[u8], mut tally: Tally, start: usize, count: usize, at: us
 {
     tally.prefixes += count - most_shared(book, at, start, count);
     if MOST_PREFIXES < tally.prefixes {
-        return Turn::Refused { why: Refusal::Full };
+        return Err(Refusal::Full);
     }
     tally.own += 1;
     tally.pieces += 1;
-    Turn::Next {
+    Ok(Reached {
         stage: Stage::Worded,
         tally,
-    }
+    })
 }
 
 // An end record. Its number has no range of its own: any wrong one is a wrong total.
-pub fn end(mut tally: Tally, count: u16) -> Turn
+#[tactic(auto, unfolding(crate::specs::Judging::end_turn))]
+pub fn end(mut tally: Tally, count: u16) -> Result<Reached, Refusal>
     ensures { result ≡ end_turn tally count }
 {
-    if lent::pair_size(count) != tally.phrases {
-        return Turn::Refused {
-            why: Refusal::Total,
-        };
+    if usize::from(count) != tally.phrases {
+        return Err(Refusal::Total);
     }
     tally.own = 0;
-    Turn::Next {
+    Ok(Reached {
         stage: Stage::Ended,
         tally,
-    }
+    })
 }
 
 // The book stops at an offset.
-pub fn stop(stage: Stage, tally: Tally, at: usize) -> Judged
-    ensures { result ≡ stop_answer stage tally at }
+#[tactic(auto, unfolding(crate::specs::Judging::stop_answer))]
+pub fn stop(reached: Reached, at: usize) -> Result<Accepted, Refused>
+    ensures { result ≡ stop_answer reached.stage reached.tally at }
 {
-    if !may_stop(stage) {
-        return Judged::Refused {
+    if !reached.stage.may_stop() {
+        return Err(Refused {
             why: Refusal::Cut,
             at,
-        };
+        });
     }
-    Judged::Accepted {
+    Ok(Accepted {
         length: at,
-        phrases: tally.phrases,
-    }
+        phrases: reached.tally.phrases,
+    })
 }

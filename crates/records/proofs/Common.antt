@@ -1,53 +1,37 @@
 -- Two keywords have in common the bytes passed so far and what their rests have in common: each turn passes one more.
 -- Assumes nothing.
-use mathlib.Core.Path.{◌≡◌}
-use mathlib.Core.List.{List, ◌∷◌}
-use Prim.Native.Nat.{ℕ, suc, ◌+◌, ◌-◌, ◌≤◌, ◌<◌}
-use native.Mathlib.Numerals.{add-one}
+use mathlib.Core.Path.{◌≡◌, refl}
+use mathlib.Core.Logic.{◌⊎◌, ⊎_elim}
+use mathlib.Core.List.{List, [], ◌∷◌}
+use Prim.Native.Nat.{ℕ, ◌+◌, ◌-◌}
 use native.Mathlib.Omega.{arith}
-use lib.ListN.{length, get_or}
-use lib.Seq.{drop-cons}
+use lib.ListN.{take, drop}
 use borrow.Author.Tests.{eq-eqb, ne_eqb}
 use Rattle.meaning.specs.Matching.{bytes_after}
 use Rattle.format.specs.Prefixes.{common_prefix}
 
--- Bytes from an offset on are the one there and those behind it.
-next_byte : (bytes : List ℕ) (x m : ℕ) → x < length bytes → bytes_after x (suc m) bytes ≡ get_or bytes x 0 ∷ bytes_after (x + 1) m bytes
+-- The bytes that are lent for a keyword.
+pub lent_bytes : (bytes : List ℕ) (x m : ℕ) → take (x + m - x) (drop x bytes) ≡ bytes_after x m bytes
 unfolding bytes_after
-next_byte bytes x m inside = rw (add-one x, drop-cons bytes x 0 inside)
+lent_bytes bytes x m = let long : x + m - x ≡ m = omega arith in rw long
 
-module _ (bytes : List ℕ) (x m y n : ℕ) where
-  -- What the keywords have in common from their byte i on.
-  abbrev pub rest : ℕ → ℕ
-  rest i = common_prefix (bytes_after (x + i) (m - i) bytes) (bytes_after (y + i) (n - i) bytes)
+nothing_behind : (words : List ℕ) → common_prefix words [] ≡ 0
+unfolding common_prefix
+nothing_behind [] = refl
+nothing_behind (x ∷ xs) = refl
 
-  pub common_start : common_prefix (bytes_after x m bytes) (bytes_after y n bytes) ≡ 0 + rest 0
-  common_start =
-      let e : m - 0 ≡ m = omega arith in
-      let f : n - 0 ≡ n = omega arith in
-      let g : x + 0 ≡ x = omega arith in
-      let h : y + 0 ≡ y = omega arith in
-      rw (e, f, g, h) (omega arith)
-
-  byte_and_rest : (z l i : ℕ) → z + l ≤ length bytes → i < l → bytes_after (z + i) (l - i) bytes ≡ get_or bytes (z + i) 0 ∷ bytes_after (z + (i + 1)) (l - (i + 1)) bytes
-  byte_and_rest z l i inside more =
-      let e : l - i ≡ suc (l - (i + 1)) = omega arith in
-      let f : z + i + 1 ≡ z + (i + 1) = omega arith in
-      rw (e, next_byte bytes (z + i) (l - (i + 1)) (omega arith), f)
-
-  module _ (x-inside : x + m ≤ length bytes) (y-inside : y + n ≤ length bytes) (i : ℕ) where
-    pub common_more : i < m → i < n → get_or bytes (x + i) 0 ≡ get_or bytes (y + i) 0 → rest i ≡ 1 + rest (i + 1)
+module _ {xs ys : List ℕ} where
+  -- Where both go on, the next bytes are the same or not.
+  module _ {x y : ℕ} {more others : List ℕ} (there : xs ≡ x ∷ more) (here : ys ≡ y ∷ others) where
+    pub common_more : x ≡ y → common_prefix xs ys ≡ 1 + common_prefix more others
     unfolding common_prefix
-    common_more p q e = rw (byte_and_rest x m i x-inside p, byte_and_rest y n i y-inside q, eq-eqb (get_or bytes (x + i) 0) (get_or bytes (y + i) 0) e)
+    common_more e = rw (there, here, eq-eqb x y e)
 
-    pub common_differ : i < m → i < n → (get_or bytes (x + i) 0 ≡ get_or bytes (y + i) 0 → ⊥) → rest i ≡ 0
+    pub common_differ : (x ≡ y → ⊥) → common_prefix xs ys ≡ 0
     unfolding common_prefix
-    common_differ p q e = rw (byte_and_rest x m i x-inside p, byte_and_rest y n i y-inside q, ne_eqb (get_or bytes (x + i) 0) (get_or bytes (y + i) 0) e)
+    common_differ e = rw (there, here, ne_eqb x y e)
 
-    pub common_ends : i < m → n ≤ i → rest i ≡ 0
-    unfolding common_prefix bytes_after
-    common_ends p q = let e : n - i ≡ 0 = omega arith in rw (byte_and_rest x m i x-inside p, e)
-
-  pub common_whole : (i : ℕ) → m ≤ i → rest i ≡ 0
-  unfolding common_prefix bytes_after
-  common_whole i p = let e : m - i ≡ 0 = omega arith in rw e
+  -- Where one of them ends, nothing more is in common.
+  pub common_ends : (xs ≡ []) ⊎ (ys ≡ []) → common_prefix xs ys ≡ 0
+  unfolding common_prefix
+  common_ends end = ⊎_elim (λ (e : xs ≡ []). rw e refl) (λ (e : ys ≡ []). rw e (nothing_behind xs)) end

@@ -9,55 +9,45 @@ use lib.Dec.{leb, ltb, eqb}
 use lib.ListN.{length, drop, get_or, length-take, length-drop}
 use borrow.Author.Tests.{leb-false, ltb-false, lt-ltb, le-ltb}
 use Rattle.meaning.specs.Matching.{bytes_after}
-use Rattle.format.specs.Prefixes.{common_prefix, most_shared}
+use Rattle.format.specs.Prefixes.{most_shared}
 use Rattle.format.specs.Refusals.{cut, kind}
 use Rattle.format.specs.Written.{header_kind, phrase_kind, bounded_kind, open_kind, end_kind}
 use Rattle.format.specs.Faults.{body_length}
 use Rattle.format.proofs.Shared.{shared_short}
+use Rattle.std.proofs.Common.{Result}
+use Rattle.records.specs.declared.records.Record.{Record}
 use Rattle.records.specs.declared.records.Found.{Found}
-use Rattle.records.specs.declared.records.Found.TheVariants.{Header, Phrase, Bounded, Open, Keyword, End, Refused}
-use Rattle.records.specs.declared.records.Cursor.{Cursor}
-use Rattle.records.specs.Records.{known, whole, nothing, body_at, found_for, whole_at, found_as, read_at}
+use Rattle.records.specs.declared.refusals.Refused.{Refused}
+use Rattle.records.specs.Kinds.{known}
+use Rattle.records.specs.Records.{whole, nothing, body_at, record_for, whole_at, found_as, read_at}
 use Rattle.records.specs.Readers.{past_of}
-use Rattle.records.specs.Prefixes.{Inside, keyword_in, keywords_from, keywords_before}
+use Rattle.records.specs.Prefixes.{Lies, Inside, keyword_in, keywords_from, keywords_before}
 
 -- ── Where the next record is ──
 
 -- The next record lies ahead, whatever end is set, and the keyword lies in the book.
-record Ahead (bytes : List ℕ) (at : ℕ) (found : Found) : Type 0 where
+record Ahead (bytes : List ℕ) (at : ℕ) (found : Result Found Refused) : Type 0 where
   next : (end : ℕ) → at < end → at < past_of found end
   inside : Inside bytes found
 
-either : (P : Found → Type 0) (test : Bool) {x y : Found} → P x → P y → P (cond test x y)
+either : (P : Record → Type 0) (test : Bool) {x y : Record} → P x → P y → P (cond test x y)
 either P true p q = p
 either P false p q = q
 
 -- A whole record ends behind its body.
-pub whole_next : (bytes : List ℕ) (at k end : ℕ) → past_of (whole_at bytes at k) end ≡ at + (1 + body_length k)
+pub whole_next : (bytes : List ℕ) (at k : ℕ) → (whole_at bytes at k).next.at ≡ at + (1 + body_length k)
 unfolding whole_at
-whole_next bytes at k end =
-    either Next (eqb k header_kind) refl
-    (either Next (eqb k phrase_kind) refl
-    (either Next (eqb k bounded_kind) refl (either Next (eqb k open_kind) refl (either Next (eqb k end_kind) refl refl))))
-  where
-    Next : Found → Type 0
-    Next found = past_of found end ≡ at + (1 + body_length k)
+whole_next bytes at k = refl
 
 module _ (bytes : List ℕ) (at : ℕ) where
-  abbrev Goes : Found → Type 0
-  Goes found = Ahead bytes at found
+  record_lies : (k : ℕ) (body : List ℕ) → at + (1 + body_length k) ≤ length bytes → Lies bytes (record_for at k body)
+  unfolding record_for
+  record_lies k body long =
+      either (Lies bytes) (eqb k header_kind) tt
+      (either (Lies bytes) (eqb k phrase_kind) tt
+      (either (Lies bytes) (eqb k bounded_kind) tt (either (Lies bytes) (eqb k open_kind) tt (either (Lies bytes) (eqb k end_kind) tt (omega arith)))))
 
-  record_ahead : (k : ℕ) (body : List ℕ) → at + (1 + body_length k) ≤ length bytes → Goes (found_for at k body)
-  unfolding found_for
-  record_ahead k body long =
-      either Goes (eqb k header_kind) (record { next = λ end more. omega arith; inside = tt })
-      (either Goes (eqb k phrase_kind) (record { next = λ end more. omega arith; inside = tt })
-      (either Goes (eqb k bounded_kind) (record { next = λ end more. omega arith; inside = tt })
-      (either Goes (eqb k open_kind) (record { next = λ end more. omega arith; inside = tt })
-      (either Goes (eqb k end_kind) (record { next = λ end more. omega arith; inside = tt })
-      (record { next = λ end more. omega arith; inside = omega arith })))))
-
-  read_ahead : Goes (read_at bytes at)
+  read_ahead : Ahead bytes at (read_at bytes at)
   unfolding read_at
   read_ahead = go (leb (length bytes) at) refl (known k) (ltb (length (drop (at + 1) bytes)) (body_length k)) refl
     where
@@ -68,16 +58,16 @@ module _ (bytes : List ℕ) (at : ℕ) where
       long p q = omega (arith, leb-false (length bytes) at p, ltb-false (length (drop (at + 1) bytes)) (body_length k) q, length-drop (at + 1) bytes)
 
       go : (past : Bool) → leb (length bytes) at ≡ past → (is short : Bool) → ltb (length (drop (at + 1) bytes)) (body_length k) ≡ short
-          → Goes (found_as at (cond past (nothing cut (length bytes)) (cond (not is) (nothing kind at) (cond short (nothing cut at) (whole k (body_at bytes at k) (at + (1 + body_length k)))))))
+          → Ahead bytes at (found_as at (cond past (nothing cut (length bytes)) (cond (not is) (nothing kind at) (cond short (nothing cut at) (whole k (body_at bytes at k) (at + (1 + body_length k)))))))
       go true p is short q = record { next = λ end more. more; inside = tt }
       go false p false short q = record { next = λ end more. more; inside = tt }
       go false p true true q = record { next = λ end more. more; inside = tt }
-      go false p true false q = record_ahead k (body_at bytes at k) (long p q)
+      go false p true false q = record { next = λ end more. omega arith; inside = record_lies k (body_at bytes at k) (long p q) }
 
   pub read_inside : Inside bytes (read_at bytes at)
   read_inside = read_ahead.inside
 
-  pub goes_ahead : (end : ℕ) {found : Found} {next : ℕ} → found ≡ read_at bytes at → next ≡ past_of found end → at < end → at < next
+  pub goes_ahead : (end : ℕ) {found : Result Found Refused} {next : ℕ} → found ≡ read_at bytes at → next ≡ past_of found end → at < end → at < next
   goes_ahead end is there more = rw (there, is) (read_ahead.next end more)
 
 -- ── The most that is shared ──
@@ -86,24 +76,6 @@ shared_append : (vs ws : List (List ℕ)) (w : List ℕ) → most_shared (vs ++ 
 unfolding most_shared
 shared_append [] ws w = omega arith
 shared_append (v ∷ vs) ws w = omega (arith, shared_append vs ws w)
-
--- A keyword shares what is common.
-pub keyword_shared : (bytes w : List ℕ) {found : Found} {start count : ℕ} {next : Cursor} → found ≡ Keyword start count next
-    → {shared : ℕ} → shared ≡ common_prefix w (bytes_after start count bytes) → shared ≡ most_shared (keyword_in bytes found) w
-unfolding most_shared keyword_in
-keyword_shared bytes w is e = rw is (omega (arith, e))
-
--- What is no keyword shares nothing.
-pub nothing_shared : (bytes w : List ℕ) (found : Found) → ((start count : ℕ) (next : Cursor) → found ≡ Keyword start count next → ⊥)
-    → 0 ≡ most_shared (keyword_in bytes found) w
-unfolding most_shared keyword_in
-nothing_shared bytes w (Header edition next) is = refl
-nothing_shared bytes w (Phrase number rights next) is = refl
-nothing_shared bytes w (Bounded least most next) is = refl
-nothing_shared bytes w (Open least next) is = refl
-nothing_shared bytes w (Keyword start count next) is = absurd (is start count next refl)
-nothing_shared bytes w (End count next) is = refl
-nothing_shared bytes w (Refused why at) is = refl
 
 module _ (bytes : List ℕ) (end : ℕ) where
   pub more_records : (n at : ℕ) → at < end → keywords_from (suc n) bytes end at ≡ keyword_in bytes (read_at bytes at) ++ keywords_from n bytes end (past_of (read_at bytes at) end)
@@ -132,7 +104,7 @@ module _ (bytes : List ℕ) (end : ℕ) where
         let none : most_shared (keywords_from s.fuel bytes end at) w ≡ 0 = ap (λ (ws : List (List ℕ)). most_shared ws w) (no_record s.fuel at past) in
         omega (arith, s.rest)
 
-    pub sharing_more : (at most : ℕ) → Sharing w at most → at < end → {found : Found} → found ≡ read_at bytes at
+    pub sharing_more : (at most : ℕ) → Sharing w at most → at < end → {found : Result Found Refused} → found ≡ read_at bytes at
         → {shared next larger : ℕ} → shared ≡ most_shared (keyword_in bytes found) w → next ≡ past_of found end → larger ≡ max most shared → Sharing w next larger
     sharing_more at most s more {found = found} is {shared = shared} own there larger = rw (there, larger) (go s.fuel s.enough s.rest)
       where

@@ -17,86 +17,48 @@ use Rattle.format.proofs.Tests.{or_cases}
 use Rattle.format.proofs.Lists.{all_take, all_drop}
 use Rattle.format.proofs.Bodies.{keyword_range, keyword_only, keyword_length}
 use Rattle.format.proofs.Records.{cells, one_by_one, two_written}
+use Rattle.std.proofs.Common.{Result, Ok, Err}
+use Rattle.records.specs.declared.kinds.Kind as code
+use Rattle.records.specs.declared.records.Record.{Record}
+use Rattle.records.specs.declared.records.Record.TheVariants.{Keyword}
 use Rattle.records.specs.declared.records.Found.{Found}
-use Rattle.records.specs.declared.records.Found.TheVariants.{Keyword, Refused}
 use Rattle.records.specs.declared.refusals.Refusal.TheVariants.{Cut, Kind}
-use Rattle.records.proofs.Fields.{keyword_whole}
-use Rattle.records.specs.Records.{known, body_of, behind, Standing, whole, nothing, body_at, standing_at, standing_of, whole_at, found_as, read_at, ReadRight}
-
--- ── Bodies of the table ──
-
--- No body of the table is empty.
-known_body : (k : ℕ) → So (known k) → 0 < body_length k
-unfolding known body_length
-known_body k h = go (eqb k header_kind) (eqb k phrase_kind) (eqb k bounded_kind) (eqb k open_kind) (eqb k end_kind) h
-  where
-    go : (a b c d e : Bool) → So (a || (b || (c || (d || (e || is_keyword k))))) → 0 < cond a 1 (cond b 3 (cond c 4 (cond d 2 (cond e 2 (k - keyword_base)))))
-    go true b c d e h = omega arith
-    go false true c d e h = omega arith
-    go false false true d e h = omega arith
-    go false false false true e h = omega arith
-    go false false false false true h = omega arith
-    go false false false false false h = omega (arith, keyword_range k h)
-
-module _ (k : ℕ) where
-  pub keyword_body : So (is_keyword k) → body_of k ≡ k - keyword_base
-  unfolding body_of known
-  keyword_body h = simp (keyword_only k h, h) (keyword_length k h)
-
-  no_body : body_of k ≡ 0 → known k ≡ false
-  unfolding body_of
-  no_body e = go (known k) (known_body k) e
-    where
-      go : (is : Bool) → (So is → 0 < body_length k) → cond is (body_length k) 0 ≡ 0 → is ≡ false
-      go true long e = absurd (omega (arith, long refl))
-      go false long e = refl
-
-  some_body : (body_of k ≡ 0 → ⊥) → So (known k) × (body_of k ≡ body_length k)
-  unfolding body_of
-  some_body n = go (known k) n
-    where
-      go : (is : Bool) → (cond is (body_length k) 0 ≡ 0 → ⊥) → So is × (cond is (body_length k) 0 ≡ body_length k)
-      go true n = (refl, refl)
-      go false n = absurd (n refl)
+use Rattle.records.specs.declared.refusals.Refused.{Refused}
+use Rattle.records.specs.Kinds.{known, byte_of}
+use Rattle.records.specs.Records.{Standing, whole, nothing, body_at, standing_at, whole_of, standing_of, cursor_at, record_for, whole_at, found_as, read_at, ReadRight}
 
 -- ── What is found, by what is tested ──
 
 module _ (bytes : List ℕ) (at : ℕ) where
-  pub read_past : length bytes ≤ at → Refused Cut (length bytes) ≡ read_at bytes at
+  pub read_past : length bytes ≤ at → Err (record { why = Cut; at = length bytes }) ≡ read_at bytes at
   unfolding read_at
   read_past past = rw (le-leb (length bytes) at past)
 
   module _ (inside : at < length bytes) where
-    pub read_unknown : known (get_or bytes at 0) ≡ false → Refused Kind at ≡ read_at bytes at
+    pub read_unknown : known (get_or bytes at 0) ≡ false → Err (record { why = Kind; at = at }) ≡ read_at bytes at
     unfolding read_at
     read_unknown h = rw (lt-leb (length bytes) at inside, h)
 
     module _ (h : So (known (get_or bytes at 0))) where
-      pub read_cut : length (drop (at + 1) bytes) < body_length (get_or bytes at 0) → Refused Cut at ≡ read_at bytes at
+      pub read_cut : length (drop (at + 1) bytes) < body_length (get_or bytes at 0) → Err (record { why = Cut; at = at }) ≡ read_at bytes at
       unfolding read_at
       read_cut short = rw (lt-leb (length bytes) at inside, h, lt-ltb (length (drop (at + 1) bytes)) (body_length (get_or bytes at 0)) short)
 
-      pub read_whole : body_length (get_or bytes at 0) ≤ length (drop (at + 1) bytes) → whole_at bytes at (get_or bytes at 0) ≡ read_at bytes at
+      pub read_whole : body_length (get_or bytes at 0) ≤ length (drop (at + 1) bytes) → Ok (whole_at bytes at (get_or bytes at 0)) ≡ read_at bytes at
       unfolding read_at whole_at
       read_whole long = rw (lt-leb (length bytes) at inside, h, le-ltb (length (drop (at + 1) bytes)) (body_length (get_or bytes at 0)) long)
 
-    -- The same by the length of the body, which is 0 where the kind is unknown.
-    module _ {body : ℕ} (is : body ≡ body_of (get_or bytes at 0)) where
-      pub no_kind : body ≡ 0 → Refused Kind at ≡ read_at bytes at
-      no_kind e = read_unknown (no_body (get_or bytes at 0) (sym is ∙ e))
+    -- The same for a byte that is read as a kind.
+    module _ (kind : code.Kind) (is : (byte_of kind ≡ get_or bytes at 0) × (known (get_or bytes at 0) ≡ true)) {body : ℕ} (long : body ≡ body_length (byte_of kind)) where
+      pub body_cut : length bytes - at ≤ body → Err (record { why = Cut; at = at }) ≡ read_at bytes at
+      body_cut short = read_cut is.1 (rw (← is.0) (omega (arith, length-drop (at + 1) bytes)))
 
-      module _ (some : body ≡ 0 → ⊥) where
-        of_kind : So (known (get_or bytes at 0)) × (body_of (get_or bytes at 0) ≡ body_length (get_or bytes at 0))
-        of_kind = some_body (get_or bytes at 0) (λ e. some (is ∙ e))
-
-        pub body_is : body ≡ body_length (get_or bytes at 0)
-        body_is = is ∙ of_kind.1
-
-        pub body_cut : length bytes - at ≤ body → Refused Cut at ≡ read_at bytes at
-        body_cut short = read_cut of_kind.0 (omega (arith, body_is, length-drop (at + 1) bytes))
-
-        pub body_whole : body < length bytes - at → whole_at bytes at (get_or bytes at 0) ≡ read_at bytes at
-        body_whole long = read_whole of_kind.0 (omega (arith, body_is, length-drop (at + 1) bytes))
+      pub body_whole : {says : Record} → says ≡ record_for at (byte_of kind) (body_at bytes at (byte_of kind)) → body < length bytes - at
+          → Ok (record { says = says; next = cursor_at (at + 1 + body) }) ≡ read_at bytes at
+      unfolding whole_at
+      body_whole told more =
+          let there : at + 1 + body ≡ at + (1 + body_length (byte_of kind)) = omega (arith, long) in
+          rw (told, there, is.0) (read_whole is.1 (rw (← is.0) (omega (arith, length-drop (at + 1) bytes))))
 
 -- ── The bytes of a body, from its fields ──
 
@@ -123,7 +85,12 @@ module _ (body : List ℕ) where
 module _ (bytes : List ℕ) (at : ℕ) (in_bytes : Bytes bytes) where
   -- The answer for a record of kind k says that kind, its body and the offset behind it.
   abbrev Said : ℕ → Type 0
-  Said k = standing_of bytes (whole_at bytes at k) ≡ whole k (body_at bytes at k) (at + (1 + body_length k))
+  Said k = standing_of bytes (Ok (whole_at bytes at k)) ≡ whole k (body_at bytes at k) (at + (1 + body_length k))
+
+  -- A kind that is none of the others says a keyword.
+  keyword_record : (k : ℕ) → So (is_keyword k) → Keyword (at + 1) (body_length k) ≡ record_for at k (body_at bytes at k)
+  unfolding record_for
+  keyword_record k h = simp (keyword_only k h)
 
   module _ (k : ℕ) (long : body_length k ≤ length (drop (at + 1) bytes)) where
     body_long : length (body_at bytes at k) ≡ body_length k
@@ -155,13 +122,11 @@ module _ (bytes : List ℕ) (at : ℕ) (in_bytes : Bytes bytes) where
     end_said e = rw e (ap (λ (l : List ℕ). whole end_kind l (at + 3)) (number_spelt (body_at bytes at end_kind) (rw e at body_bytes) (rw e at body_long)))
 
     keyword_said : So (is_keyword k) → Said k
-    unfolding standing_of body_at
+    unfolding standing_of whole_at body_at
     keyword_said h =
-        let low : keyword_base + 1 ≤ k = (keyword_range k h).0 in
-        let says : keyword_base + body_length k ≡ k = omega (arith, keyword_length k h) in
-        let is : Keyword (at + 1) (body_length k) (behind at k) ≡ whole_at bytes at k
-        = keyword_whole bytes at k refl refl (λ e. omega arith) (λ e. omega arith) (λ e. omega arith) (λ e. omega arith) (λ e. omega arith) in
-        ap (standing_of bytes) (sym is) ∙ ap (λ (kind : ℕ). whole kind (take (body_length k) (drop (at + 1) bytes)) (at + (1 + body_length k))) says
+        let says : keyword_base + body_length k ≡ k = omega (arith, keyword_length k h, keyword_range k h) in
+        ap (λ (said : Record). whole_of bytes said (at + (1 + body_length k))) (sym (keyword_record k h))
+        ∙ ap (λ (kind : ℕ). whole kind (take (body_length k) (drop (at + 1) bytes)) (at + (1 + body_length k))) says
 
     record_said : So (known k) → Said k
     unfolding known
@@ -192,5 +157,5 @@ module _ (bytes : List ℕ) (at : ℕ) (in_bytes : Bytes bytes) where
       go false true true e h = refl
       go false true false e h = h refl e
 
-  pub read_right : {found : Found} → found ≡ read_at bytes at → ReadRight bytes at found
+  pub read_right : {found : Result Found Refused} → found ≡ read_at bytes at → ReadRight bytes at found
   read_right e = record { exact = e; meant = ap (standing_of bytes) e ∙ read_said }

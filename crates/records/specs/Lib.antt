@@ -1,4 +1,5 @@
 pub mod Refusals
+pub mod Kinds
 pub mod Records
 pub mod Readers
 pub mod Prefixes

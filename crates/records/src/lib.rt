@@ -2,13 +2,14 @@
 // keyword shares with those before it.
 #![tactic(auto)]
 
-pub mod kinds;
+mod kinds;
 mod prefixes;
 mod reader;
-pub mod records;
-pub mod refusals;
+mod records;
+mod refusals;
 
+pub use kinds::Kind;
 pub use prefixes::most_shared;
-pub use reader::{Reader, next, past, read};
-pub use records::{Cursor, Found};
-pub use refusals::Refusal;
+pub use reader::{Reader, read};
+pub use records::{Cursor, Found, Record};
+pub use refusals::{Refusal, Refused};

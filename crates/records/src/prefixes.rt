@@ -1,68 +1,55 @@
 // How much a keyword shares with those before it: its longest common prefix with an earlier keyword of the book, which is found by
 // reading the records before it again.
-ghost use Rattle.std.specs.Prelude.{◌≡◌, ◌+◌, ◌≤◌, max, length};
+ghost use Rattle.std.specs.Prelude.{◌≡◌, ◌+◌, ◌≤◌, length};
 ghost use Rattle.meaning.specs.Matching.{bytes_after};
 ghost use Rattle.format.specs.Prefixes.{common_prefix, most_shared};
-ghost use Rattle.records.specs.Prefixes.{Inside, keyword_in, keywords_before};
+ghost use Rattle.records.specs.Prefixes.{Lies, keyword_of, keywords_before};
 
-use crate::reader::{past, read};
-use crate::records::{Cursor, Found};
+use crate::reader::read;
+use crate::records::{Cursor, Record};
 
-// The larger of two numbers.
-fn larger(m: usize, n: usize) -> usize
-    ensures { result ≡ max m n }
+// How many bytes two keywords have in common from their start on.
+fn common(keyword: &[u8], other: &[u8]) -> usize
+    ensures { result ≡ common_prefix keyword.now other.now }
 {
-    if m < n { n } else { m }
-}
-
-// How many bytes the keyword of m bytes at x and that of n bytes at y have in common from their start on.
-fn common(book: &[u8], x: usize, m: usize, y: usize, n: usize) -> usize
-    requires m_in_bounds { x + m ≤ length book.now }
-    requires n_in_bounds { y + n ≤ length book.now }
-    ensures { result ≡ common_prefix (bytes_after x m book.now) (bytes_after y n book.now) }
-{
-    let mut i = 0;
-    while i < m {
-        if n <= i {
-            return i;
+    let mut shared = 0;
+    for (byte, other_byte) in keyword.iter().zip(other) {
+        if byte != other_byte {
+            return shared;
         }
-        if book[x + i] != book[y + i] {
-            return i;
-        }
-        i += 1;
+        shared += 1;
     }
-    i
+    shared
 }
 
-// How many bytes the keyword of m bytes at x shares with what was found: none where that is no keyword.
-fn shared_with(book: &[u8], x: usize, m: usize, found: Found) -> usize
-    requires m_in_bounds { x + m ≤ length book.now }
-    requires inside { Inside book.now found }
-    ensures { result ≡ most_shared (keyword_in book.now found) (bytes_after x m book.now) }
+// How many bytes a keyword shares with what a record says: none where that is no keyword.
+#[tactic(auto, using(crate::proofs::Common::lent_bytes), unfolding(crate::specs::Prefixes::keyword_of, format::specs::Prefixes::most_shared))]
+fn shared_with(book: &[u8], keyword: &[u8], says: Record) -> usize
+    requires inside { Lies book.now says }
+    ensures { result ≡ most_shared (keyword_of book.now says) keyword.now }
 {
-    match found {
-        Found::Keyword {
-            start,
-            length,
-            next: _,
-        } => common(book, x, m, start, length),
+    match says {
+        Record::Keyword { start, length } => common(keyword, &book[start..start + length]),
         _ => 0,
     }
 }
 
-// The longest common prefix of the keyword of m bytes at x with any keyword of the records before an offset. Where there is no
-// record, the count goes on at that offset.
-pub fn most_shared(book: &[u8], end: usize, x: usize, m: usize) -> usize
+// The longest common prefix of the keyword of `count` bytes from `start` on with any keyword of the records before an offset. Where
+// there is no record, nothing more is read.
+pub fn most_shared(book: &[u8], end: usize, start: usize, count: usize) -> usize
     requires end_in_bounds { end ≤ length book.now }
-    requires m_in_bounds { x + m ≤ length book.now }
-    ensures { (result ≡ most_shared (keywords_before book.now end) (bytes_after x m book.now)) × (result ≤ m) }
+    requires count_in_bounds { start + count ≤ length book.now }
+    ensures { (result ≡ most_shared (keywords_before book.now end) (bytes_after start count book.now)) × (result ≤ count) }
 {
+    let keyword = &book[start..start + count];
     let mut at = 0;
     let mut most = 0;
     while at < end {
-        let found = read(book, Cursor { at });
-        most = larger(most, shared_with(book, x, m, found));
-        at = past(found, end);
+        let Ok(found) = read(book, Cursor { at }) else {
+            return most;
+        };
+        most = most.max(shared_with(book, keyword, found.says));
+        at = found.next.at;
     }
     most
 }

@@ -1,10 +1,11 @@
 use Prim.Native.Nat.{◌-◌}
+use mathlib.Core.Path.{◌≡◌}
 use lib.ListN.{length}
 use Rattle.book.proofs.Reading.{Reading}
 use Rattle.book.proofs.judging.judge.Given as goal
 
-abbrev pub invariant-loop-at : goal.invariant-loop-at
-invariant-loop-at l = Reading l.book l.at l.stage l.tally
+abbrev pub invariant-loop-reader : goal.invariant-loop-reader
+invariant-loop-reader l = (l.reader.book.now ≡ l.book) × Reading l.book l.reader.at l.reached.stage l.reached.tally
 
-abbrev pub decreases-loop-at : goal.decreases-loop-at
-decreases-loop-at l = length l.book - l.at
+abbrev pub decreases-loop-reader : goal.decreases-loop-reader
+decreases-loop-reader l = length l.book - l.reader.at

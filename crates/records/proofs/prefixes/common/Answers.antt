@@ -1,27 +1,22 @@
 -- The loop keeps: what the keywords have in common is the bytes passed and what their rests have in common. Assumes nothing.
+use mathlib.Core.Path.{refl}
+use mathlib.Core.List.{[], ◌∷◌}
 use native.Mathlib.Omega.{arith}
-use Rattle.records.proofs.Common.{common_start, common_more, common_differ, common_ends, common_whole}
+use lib.ListN.{length-append}
+use Rattle.std.proofs.Common.{None}
+use Rattle.std.proofs.lemmas.Slice.Zip.{either_empty_from_Zip}
+use Rattle.records.proofs.Common.{common_more, common_differ, common_ends}
 use Rattle.records.proofs.prefixes.common.Goals as goal
 
-pub loop-i-init : goal.loop-i-init
-loop-i-init c = let a = c.args in common_start a.book.now a.x a.m a.y a.n
+pub returns-then-byte-other_byte : goal.returns-then-byte-other_byte
+returns-then-byte-other_byte c =
+    let turn = c.in-Some.ensures.steps in
+    omega (arith, c.loop-byte.invariant.1, common_differ turn.0 turn.1 c.if-byte-other_byte.true)
 
-pub returns-then-n-i : goal.returns-then-n-i
-returns-then-n-i c =
-    let a = c.args in
-    omega (arith, common_ends a.book.now a.x a.m a.y a.n (omega arith) (omega arith) c.loop-i.i (omega arith) (omega arith))
-
-pub returns-then-book-x : goal.returns-then-book-x
-returns-then-book-x c =
-    let a = c.args in
-    omega (arith, common_differ a.book.now a.x a.m a.y a.n (omega arith) (omega arith) c.loop-i.i (omega arith) (omega arith) c.if-book-x.true)
-
-pub loop-i-preserved : goal.loop-i-preserved
-loop-i-preserved c =
-    let a = c.args in
-    omega (arith, common_more a.book.now a.x a.m a.y a.n (omega arith) (omega arith) c.loop-i.i (omega arith) (omega arith) c.if-book-x.false)
+pub loop-byte-preserved : goal.loop-byte-preserved
+loop-byte-preserved c =
+    let turn = c.in-Some.ensures.steps in
+    (omega (arith, length-append c.loop-byte.yielded ((c.in-Some.byte, c.in-Some.other_byte) ∷ [])), omega (arith, c.loop-byte.invariant.1, common_more turn.0 turn.1 c.if-byte-other_byte.false))
 
 pub returns : goal.returns
-returns c =
-    let a = c.args in
-    omega (arith, common_whole a.book.now a.x a.m a.y a.n c.loop-i.i (omega arith))
+returns c = omega (arith, c.loop-byte.invariant.1, common_ends (either_empty_from_Zip c.loop-byte.byte-iterator c.next.new.self None refl c.in-None.ensures.steps))
