@@ -1,29 +1,36 @@
 // Fills in which column each byte has: the bytes that occur in keywords have one each, in their order, and all others share the first.
 #![tactic(auto)]
 
-ghost use Rattle.std.specs.Prelude.{◌≡◌, ◌+◌, ◌≤◌, ◌<◌};
-ghost use Rattle.tables.specs.Layout.{room_for_states};
+ghost use Rattle.std.specs.Prelude.{◌≡◌, ◌+◌, ◌*◌, ◌≤◌, ◌<◌};
+ghost use Rattle.tables.specs.Layout.{column_at, room_for_states};
 ghost use Rattle.tables.specs.Reads.{Whole};
 ghost use Rattle.columns.specs.Columns.{next_class, with_class, classed, most_rows, with_column, with_columns, dense_for, columned};
 
-use tables::layout;
+use tables::{Tables, layout};
 
 // How many numbers two bytes can hold.
 const PAIR: usize = 65536;
 
+// Where the entry of a byte stands.
+fn entry(byte: u8) -> usize
+    ensures { result ≡ column_at + 2 * byte }
+{
+    layout::COLUMN + 2 * usize::from(byte)
+}
+
+// Kept, no plainer: with `struct Filled<'a> { bytes: &'a mut [u8] }` each method would need one clause more: that the borrow keeps its ghost name.
 // Notes the class of a byte in its entry: the next one where some state has the byte as its label, and else 0. Answers which class is next.
-fn put_class(t: &mut [u8], states: usize, next: usize, byte: usize) -> usize
-    requires { (Whole t.old) × (states ≤ room_for_states) × (byte < 256) × (next ≤ 256) }
+fn put_class(t: &mut [u8], states: usize, next: usize, byte: u8) -> usize
+    requires { (Whole t.old) × (states ≤ room_for_states) × (next ≤ 256) }
     ensures value { (result ≡ next_class t.old states next byte) × (t.new ≡ with_class t.old states next byte) }
     ensures lower_bound { (next ≤ result) × (result ≤ next + 1) }
 {
-    let state = stepping::labelled(t, byte as u8, 1, states);
-    if state.number() == 0 {
-        lent::put2(t, layout::COLUMN + 2 * byte, 0);
-        return next;
-    }
-    lent::put2(t, layout::COLUMN + 2 * byte, next as u16);
-    next + 1
+    let (class, after) = match stepping::labelled(&Tables::of(t), byte, 1..states) {
+        Some(_) => (next, next + 1),
+        None => (0, next),
+    };
+    lent::put2(t, entry(byte), class as u16);
+    after
 }
 
 // Notes the class of each byte. Answers how many classes there are.
@@ -33,10 +40,8 @@ fn put_classes(t: &mut [u8], states: usize) -> usize
     ensures lower_bound { 1 ≤ result }
 {
     let mut next = 1;
-    let mut byte = 0;
-    while byte < layout::BYTE_VALUES {
+    for byte in 0..=255u8 {
         next = put_class(t, states, next, byte);
-        byte += 1;
     }
     next
 }
@@ -47,29 +52,26 @@ fn most_rows(states: usize, classes: usize) -> usize
     ensures value { result ≡ most_rows states classes }
     ensures upper_bound { result ≤ states }
 {
-    let room = layout::ROOM_FOR_CELLS / classes;
-    if states < room { states } else { room }
+    states.min(layout::ROOM_FOR_CELLS / classes)
 }
 
 // Writes where the column of a byte begins over the class that was noted there. In the tables of a book that is a place of the memory,
 // and two bytes can say it.
-fn put_column(t: &mut [u8], dense: usize, byte: usize)
-    requires { (Whole t.old) × (dense ≤ room_for_states) × (byte < 256) }
+fn put_column(t: &mut [u8], dense: usize, byte: u8)
+    requires { (Whole t.old) × (dense ≤ room_for_states) }
     ensures { t.new ≡ with_column t.old dense byte }
 {
-    let class = tables::column(t, byte as u8);
+    let class = Tables::of(t).column(byte);
     let column = layout::ROWS + 2 * (dense * class);
-    lent::put2(t, layout::COLUMN + 2 * byte, (column % PAIR) as u16);
+    lent::put2(t, entry(byte), (column % PAIR) as u16);
 }
 
 fn put_columns(t: &mut [u8], dense: usize)
     requires { (Whole t.old) × (dense ≤ room_for_states) }
     ensures { t.new ≡ with_columns t.old dense 256 }
 {
-    let mut byte: usize = 0;
-    while byte < layout::BYTE_VALUES {
+    for byte in 0..=255u8 {
         put_column(t, dense, byte);
-        byte += 1;
     }
 }
 

@@ -1,12 +1,16 @@
 -- One state at a time: each turn of a loop is one more of its definition. Assumes nothing.
 use mathlib.Core.Path.{◌≡◌, refl, ◌∙◌}
 use mathlib.Core.List.{List}
-use Prim.Native.Nat.{ℕ, zero, suc, ◌+◌, ◌-◌, ◌≤◌, ◌<◌}
+use Prim.Native.Nat.{ℕ, zero, suc, ◌+◌, ◌-◌, ◌%◌, ◌≤◌, ◌<◌}
 use native.Mathlib.Numerals.{add-one}
 use native.Mathlib.Omega.{arith}
 use Rattle.tables.specs.Reads.{first_child_in}
 use Rattle.stepping.specs.Steps.{children_end_in}
 use Rattle.depths.specs.Depths.{with_depth, with_depths, with_gain, with_gains, with_gains_of, with_gains_below}
+
+-- Adding byte by byte, each time modulo 256, ends at the same byte as the sum.
+pub same_byte : (info from to : ℕ) → to < 256 → (info + ((from + 1) % 256 + (256 - to)) % 256) % 256 ≡ (info + 256 + 1 + from - to) % 256
+same_byte info from to small = omega arith
 
 pub depths_further : (t : List ℕ) (i : ℕ) → 0 < i → with_depths t (suc i) ≡ with_depth (with_depths t i) i
 unfolding with_depths

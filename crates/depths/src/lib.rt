@@ -7,18 +7,17 @@ ghost use Rattle.tables.specs.Reads.{Whole};
 ghost use Rattle.depths.specs.Depths.{with_depth, with_depths, with_gain, with_gains_of, with_gains_below, filled};
 
 use counters::State;
-use tables::layout;
+use tables::{Tables, layout};
 
-// How many numbers one byte can hold. No state of a book is deeper than its 32 bytes.
-const BYTE: u16 = 256;
-
-// A state is one deeper than its failure.
+// Kept, no plainer: with `struct Filled<'a> { bytes: &'a mut [u8] }` each method would need one clause more: that the borrow keeps its ghost name.
+// A state is one deeper than its failure. No state of a book is deeper than its 32 bytes.
 fn put_depth(t: &mut [u8], state: State)
     requires { (Whole t.old) × (state.0 < room_for_states) }
     ensures { t.new ≡ with_depth t.old state.0 }
 {
-    let failure = lent::wide(tables::depth(t, tables::failure(t, state)));
-    t[layout::DEPTH + state.index()] = ((failure + 1) % BYTE) as u8;
+    let tables = Tables::of(t);
+    let failure = tables.depth(tables.failure(state));
+    t[layout::DEPTH + state.index()] = failure.wrapping_add(1);
 }
 
 // In the order of their numbers, so that the failure's turn is over. The root has the depth 0, as zero memory says already.
@@ -26,10 +25,8 @@ fn put_depths(t: &mut [u8], states: usize)
     requires { (Whole t.old) × (1 ≤ states) × (states ≤ room_for_states) }
     ensures { t.new ≡ with_depths t.old states }
 {
-    let mut i: usize = 1;
-    while i < states {
+    for i in 1..states {
         put_depth(t, State::numbered(i as u16));
-        i += 1;
     }
 }
 
@@ -38,21 +35,20 @@ fn put_gain(t: &mut [u8], parent: State, child: State)
     requires { (Whole t.old) × (parent.0 < room_for_states) × (child.0 < room_for_states) }
     ensures { t.new ≡ with_gain t.old parent.0 child.0 }
 {
-    let from = lent::wide(tables::depth(t, parent));
-    let to = lent::wide(tables::depth(t, child));
-    let info = lent::wide(tables::info(t, child));
-    t[layout::INFO + child.index()] = ((info + BYTE + 1 + from - to) % BYTE) as u8;
+    let tables = Tables::of(t);
+    let from = tables.depth(parent);
+    let to = tables.depth(child);
+    let gain = from.wrapping_add(1).wrapping_sub(to);
+    let info = tables.info(child);
+    t[layout::INFO + child.index()] = info.wrapping_add(gain);
 }
 
 fn put_gains(t: &mut [u8], states: usize, parent: State)
     requires { (Whole t.old) × (states ≤ room_for_states) × (parent.0 < states) }
     ensures { t.new ≡ with_gains_of t.old states parent.0 }
 {
-    let end = stepping::children_end(t, states, parent);
-    let mut child = tables::first_child(t, parent);
-    while child < end {
+    for child in stepping::children(&Tables::of(t), states, parent) {
         put_gain(t, parent, State::numbered(child as u16));
-        child += 1;
     }
 }
 
@@ -60,10 +56,8 @@ fn put_all_gains(t: &mut [u8], states: usize)
     requires { (Whole t.old) × (states ≤ room_for_states) }
     ensures { t.new ≡ with_gains_below t.old states states }
 {
-    let mut parent: usize = 0;
-    while parent < states {
+    for parent in 0..states {
         put_gains(t, states, State::numbered(parent as u16));
-        parent += 1;
     }
 }
 

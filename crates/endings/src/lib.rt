@@ -3,12 +3,13 @@
 
 ghost use Rattle.std.specs.Prelude.{◌≡◌, ℕ, ◌+◌, ◌*◌, ◌≤◌, ◌<◌, get_or};
 ghost use Rattle.tables.specs.Layout.{room_for_states, room_for_pieces};
-ghost use Rattle.tables.specs.Reads.{Whole};
+ghost use Rattle.tables.specs.Reads.{Whole, as_link};
 ghost use Rattle.endings.specs.Filled.{with_ending, with_link, with_first, own_below, with_inherited, inherited_below, with_link_on, linked_below, filled};
 
 use counters::State;
-use tables::layout;
+use tables::{Tables, layout};
 
+// Kept, no plainer: with `struct Filled<'a> { bytes: &'a mut [u8] }` each method would need one clause more: that the borrow keeps its ghost name.
 fn put_ending(t: &mut [u8], state: State, out: u8, info: u8)
     requires { (Whole t.old) × (state.0 < room_for_states) }
     ensures { t.new ≡ with_ending t.old state.0 out info }
@@ -18,10 +19,12 @@ fn put_ending(t: &mut [u8], state: State, out: u8, info: u8)
     t[layout::INFO + i] = info;
 }
 
-fn put_link(t: &mut [u8], p: usize, link: usize)
-    requires { (Whole t.old) × (p < room_for_pieces) × (link ≤ room_for_pieces) }
-    ensures { t.new ≡ with_link t.old p link }
+// Links piece p to the one that is looked at after it, if there is one.
+fn put_link(t: &mut [u8], p: usize, next: Option<usize>)
+    requires { (Whole t.old) × (p < room_for_pieces) × (as_link next ≤ room_for_pieces) }
+    ensures { t.new ≡ with_link t.old p (as_link next) }
 {
+    let link = next.map_or(0, |piece| piece + 1);
     lent::put2(
         t,
         layout::PIECE + layout::PIECE_LENGTH * p + layout::LINK,
@@ -34,7 +37,7 @@ fn put_first(t: &mut [u8], state: State, p: usize)
     requires { (Whole t.old) × (state.0 < room_for_states) × (p < room_for_pieces) }
     ensures { t.new ≡ with_first t.old state.0 p }
 {
-    let next = tables::first_link(t, state);
+    let next = Tables::of(t).first_link(state);
     put_link(t, p, next);
     put_ending(t, state, p as u8, layout::ENDING);
 }
@@ -44,9 +47,7 @@ fn put_own(t: &mut [u8], at: &[u16; layout::ROOM_FOR_PIECES], pieces: usize)
     requires { (Whole t.old) × (pieces ≤ room_for_pieces) × ((p : ℕ) → get_or at.now p 0 < room_for_states) }
     ensures { t.new ≡ own_below at.now pieces t.old }
 {
-    let mut p = pieces;
-    while p > 0 {
-        p -= 1;
+    for p in (0..pieces).rev() {
         put_first(t, State::numbered(at[p]), p);
     }
 }
@@ -56,12 +57,13 @@ fn inherit(t: &mut [u8], state: State)
     requires { (Whole t.old) × (state.0 < room_for_states) }
     ensures { t.new ≡ with_inherited t.old state.0 }
 {
-    if tables::has_ending(t, state) {
+    let tables = Tables::of(t);
+    if tables.has_ending(state) {
         return;
     }
-    let back = tables::failure(t, state);
-    let out = tables::out(t, back);
-    let info = tables::info(t, back);
+    let back = tables.failure(state);
+    let out = tables.out(back);
+    let info = tables.info(back);
     put_ending(t, state, out as u8, info);
 }
 
@@ -70,10 +72,8 @@ fn inherit_all(t: &mut [u8], states: usize)
     requires { (Whole t.old) × (states ≤ room_for_states) }
     ensures { t.new ≡ inherited_below states t.old }
 {
-    let mut i: usize = 0;
-    while i < states {
+    for i in 0..states {
         inherit(t, State::numbered(i as u16));
-        i += 1;
     }
 }
 
@@ -82,8 +82,9 @@ fn link_on(t: &mut [u8], state: State, p: usize)
     requires { (Whole t.old) × (state.0 < room_for_states) × (p < room_for_pieces) }
     ensures { t.new ≡ with_link_on t.old state.0 p }
 {
-    if tables::link(t, p) == 0 {
-        let next = tables::first_link(t, tables::failure(t, state));
+    let tables = Tables::of(t);
+    if tables.link(p) == 0 {
+        let next = tables.first_link(tables.failure(state));
         put_link(t, p, next);
     }
 }
@@ -92,10 +93,8 @@ fn link_all(t: &mut [u8], at: &[u16; layout::ROOM_FOR_PIECES], pieces: usize)
     requires { (Whole t.old) × (pieces ≤ room_for_pieces) × ((p : ℕ) → get_or at.now p 0 < room_for_states) }
     ensures { t.new ≡ linked_below at.now pieces t.old }
 {
-    let mut p: usize = 0;
-    while p < pieces {
+    for p in 0..pieces {
         link_on(t, State::numbered(at[p]), p);
-        p += 1;
     }
 }
 

@@ -5,11 +5,13 @@ use mathlib.Core.List.{List}
 use Prim.Native.Nat.{ℕ, suc, ◌+◌, ◌-◌, ◌≤◌, ◌<◌}
 use native.Mathlib.Omega.{arith}
 use borrow.Author.Tests.{eq-eqb, ne_eqb}
+use Rattle.std.specs.Prelude.{Option, Some, None, unwrap_or}
+use Rattle.counters.specs.declared.State.{State}
 use Rattle.numbering.specs.Walks.{Landed}
 use Rattle.numbering.proofs.Walks.{walk_forward, walk_root, walk_back, walk_enough}
 use Rattle.tables.specs.Reads.{label_in, back_in}
 use Rattle.tables.proofs.Followed.{back_below}
-use Rattle.stepping.specs.Steps.{labelled_in, child_by_in, next_in}
+use Rattle.stepping.specs.Steps.{labelled_in, number_or_root, child_by_in, next_in}
 
 -- ── The search for a label ──
 
@@ -30,6 +32,11 @@ module _ (t : List ℕ) (byte i to state : ℕ) (is : state ≡ i) (more : i < t
 pub search_end : (t : List ℕ) (byte i to : ℕ) → to ≤ i → labelled_in t byte (to - i) i ≡ 0
 unfolding labelled_in
 search_end t byte i to l = let e : to - i ≡ 0 = omega arith in rw e
+
+-- Going on from the root where nothing was found takes the number that the definitions have.
+pub or_root : (found : Option State) (root : State) → root.0 ≡ 0 → (unwrap_or found root).0 ≡ number_or_root found
+or_root None root is = is
+or_root (Some state) root is = refl
 
 -- ── The walk along failures ──
 

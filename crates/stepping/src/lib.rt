@@ -1,12 +1,14 @@
 // The step of a byte, from table memory: to the child by it, or along the failures to the nearest state that has one.
 #![tactic(auto)]
 
-ghost use Rattle.std.specs.Prelude.{◌≡◌, ◌+◌, ◌-◌, ◌≤◌, ◌<◌};
+ghost use Rattle.std.specs.Prelude.{◌≡◌, ◌+◌, ◌-◌, ◌≤◌, ◌<◌, IfSome};
 ghost use Rattle.tables.specs.Layout.{room_for_states};
-ghost use Rattle.tables.specs.Reads.{Whole};
-ghost use Rattle.stepping.specs.Steps.{children_end_in, labelled_in, child_by_in, next_in, landed};
+ghost use Rattle.tables.specs.Reads.{first_child_in};
+ghost use Rattle.stepping.specs.Steps.{children_end_in, labelled_in, number_or_root, child_by_in, next_in, landed};
 
 use counters::State;
+use std::ops::Range;
+use tables::Tables;
 
 // Where the step of a byte leads, and how many failures it takes.
 #[derive(Clone, Copy)]
@@ -15,58 +17,58 @@ pub struct Stepped {
     pub steps: u64,
 }
 
-// Where the numbers of a state's children end, and no further than there are states.
-pub fn children_end(t: &[u8], states: usize, state: State) -> usize
-    requires { (Whole t.now) × (states ≤ room_for_states) × (state.0 < states) }
-    ensures { result ≡ children_end_in t.now states state.0 }
+// Kept, no plainer: `States { tables, count }` would take `states ≤ room_for_states` from the four functions here, and each of the eighteen that write tables
+// would make one for each call.
+// The numbers of a state's children, which stand together: no further than there are states.
+pub fn children(t: &Tables, states: usize, state: State) -> Range<usize>
+    requires { (states ≤ room_for_states) × (state.0 < states) }
+    ensures { (result.start ≡ first_child_in t.now state.0) × (result.end ≡ children_end_in t.now states state.0) }
 {
-    let end = tables::children_end(t, state);
-    if end < states { end } else { states }
+    t.first_child(state)..t.children_end(state).min(states)
 }
 
-// The first state from one number up to, without, another whose label is the byte; the root where there is none.
-pub fn labelled(t: &[u8], byte: u8, from: usize, to: usize) -> State
-    requires { (Whole t.now) × (to ≤ room_for_states) }
-    ensures { (result.0 ≡ labelled_in t.now byte (to - from) from) × (result.0 ≤ to - 1) }
+// The first state among some whose label is the byte. The root is nobody's child: where it comes first, there is none.
+pub fn labelled(t: &Tables, byte: u8, among: Range<usize>) -> Option<State>
+    requires { among.end ≤ room_for_states }
+    ensures value { number_or_root result ≡ labelled_in t.now byte (among.end - among.start) among.start }
+    ensures bounds { IfSome result (λ state. (0 < state.0) × (state.0 < among.end)) }
 {
-    let mut i = from;
-    while i < to {
+    // Kept, speed: `for i in among` takes each number from the range by a call, and build of the hostile book took 6.1 ms in place of 3.8.
+    for i in among.start..among.end {
         let state = State::numbered(i as u16);
-        if tables::label(t, state) == byte {
-            return state;
+        if t.label(state) == byte {
+            return if i == 0 { None } else { Some(state) };
         }
-        i += 1;
     }
-    State::root()
+    None
 }
 
-// The child of a state by a byte. Where there is none it is the root, which is nobody's child.
-pub fn child_by(t: &[u8], states: usize, state: State, byte: u8) -> State
-    requires { (Whole t.now) × (states ≤ room_for_states) × (state.0 < states) }
-    ensures { (result.0 ≡ child_by_in t.now states state.0 byte) × (result.0 < states) }
+// The child of a state by a byte, where there is one.
+pub fn child_by(t: &Tables, states: usize, state: State, byte: u8) -> Option<State>
+    requires { (states ≤ room_for_states) × (state.0 < states) }
+    ensures value { number_or_root result ≡ child_by_in t.now states state.0 byte }
+    ensures bounds { IfSome result (λ child. (0 < child.0) × (child.0 < states)) }
 {
-    let from = tables::first_child(t, state);
-    let to = children_end(t, states, state);
-    labelled(t, byte, from, to)
+    labelled(t, byte, children(t, states, state))
 }
 
 // The state after one byte more, and the failure steps that it takes.
-pub fn next_state(t: &[u8], states: usize, state: State, byte: u8) -> Stepped
-    requires { (Whole t.now) × (states ≤ room_for_states) × (state.0 < states) }
+pub fn next_state(t: &Tables, states: usize, state: State, byte: u8) -> Stepped
+    requires { (states ≤ room_for_states) × (state.0 < states) }
     ensures { (landed result ≡ next_in t.now states state.0 byte) × (result.state.0 < states) }
 {
     let mut from = state;
     let mut steps = 0u64;
+    // Kept, no plainer: the steps are part of the answer; `for steps in 0..=state.index()` would need an answer behind its end, which no walk reaches.
     loop {
-        let next = child_by(t, states, from, byte);
-        if next.number() != 0 {
+        if let Some(next) = child_by(t, states, from, byte) {
             return Stepped { state: next, steps };
         }
         // The root has no failure: the walk ends there.
         if from.number() == 0 {
             return Stepped { state: from, steps };
         }
-        from = tables::failure(t, from);
+        from = t.failure(from);
         steps += 1;
     }
 }

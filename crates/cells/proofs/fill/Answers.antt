@@ -8,14 +8,13 @@ use Rattle.cells.proofs.fill.Goals as goal
 
 pub loop-byte-init : goal.loop-byte-init
 unfolding with_rows
-loop-byte-init c = (omega arith, refl, refl)
+loop-byte-init c = refl
 
 pub loop-byte-preserved : goal.loop-byte-preserved
-loop-byte-preserved c =
-    let a = c.args in
-    (omega arith, rows_turn a.t.now a.states a.dense c.loop-byte.byte c.loop-byte.t _ c.loop-byte.invariant.1 c.fill_column.ensures, omega arith)
+loop-byte-preserved c = let a = c.args in rows_turn a.t.now a.states a.dense c.loop-byte.byte c.loop-byte.t _ c.loop-byte.invariant c.fill_column.ensures
 
-pub returns : goal.returns
-returns c =
-    let done : c.loop-byte.byte ≡ 256 = omega arith in
-    rw done at c.loop-byte.invariant.1
+pub returns-2 : goal.returns-2
+returns-2 c =
+    let a = c.args in
+    let last : c.loop-byte.byte ≡ 255 = omega arith in
+    rw last at (rows_turn a.t.now a.states a.dense c.loop-byte.byte c.loop-byte.t _ c.loop-byte.invariant c.fill_column.ensures)

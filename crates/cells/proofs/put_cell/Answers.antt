@@ -5,4 +5,4 @@ use Rattle.cells.proofs.put_cell.Goals as goal
 
 pub returns : goal.returns
 unfolding with_cell
-returns c = rw (c.put2.ensures, c.index.ensures.0, c.next_of-next.ensures.0)
+returns c = rw (c.put2.ensures, c.index.ensures.0, c.next_of-next.ensures.0, c.of.ensures)

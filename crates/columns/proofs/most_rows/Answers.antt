@@ -1,13 +1,8 @@
--- Both ends are the smaller of two numbers.
+-- The number is the definition's.
 -- Assumes nothing.
-use native.Mathlib.Omega.{arith}
 use Rattle.columns.specs.Columns.{most_rows}
 use Rattle.columns.proofs.most_rows.Goals as goal
 
-pub returns-then-states-room-clause-value : goal.returns-then-states-room-clause-value
+pub returns-clause-value : goal.returns-clause-value
 unfolding most_rows
-returns-then-states-room-clause-value c = omega arith
-
-pub returns-else-states-room-clause-value : goal.returns-else-states-room-clause-value
-unfolding most_rows
-returns-else-states-room-clause-value c = omega arith
+returns-clause-value c = c.min.ensures

@@ -1,21 +1,21 @@
--- The two ends are the two sides of the test: no state has the byte as its label, or some has.
+-- The two arms are the two sides of the definition's test: no state has the byte as its label, or some has.
 -- Assumes nothing.
 use native.Mathlib.Omega.{arith}
-use mathlib.Core.Path.{◌≡◌, refl, sym, ◌∙◌}
+use mathlib.Core.Path.{◌≡◌, refl, sym}
 use borrow.Author.Tests.{eq-eqb, ne_eqb}
 use Rattle.columns.specs.Columns.{labelled_by, class_for, next_class, with_class}
 use Rattle.columns.proofs.put_class.Goals as goal
+use Rattle.columns.proofs.put_class.Goals.{in-Some, in-None}
 
-pub returns-then-number-eq0 : goal.returns-then-number-eq0
+pub returns-clause-value : goal.returns-clause-value
 unfolding next_class with_class class_for
-returns-then-number-eq0 c =
+returns-clause-value c =
     let a = c.args in
-    let none : labelled_by a.t.now a.states a.byte ≡ 0 = sym (c.number.ensures ∙ c.labelled-state.ensures.0) ∙ c.if-number-eq0.true in
-    rw (eq-eqb (labelled_by a.t.now a.states a.byte) 0 none) (record { value = (refl, c.put2.ensures); lower_bound = (omega arith, omega arith) })
-
-pub returns : goal.returns
-unfolding next_class with_class class_for
-returns c =
-    let a = c.args in
-    let some : labelled_by a.t.now a.states a.byte ≡ 0 → ⊥ = λ e. c.if-number-eq0.false (c.number.ensures ∙ c.labelled-state.ensures.0 ∙ e) in
-    rw (ne_eqb (labelled_by a.t.now a.states a.byte) 0 some) (record { value = (refl, c.put2-2.ensures); lower_bound = (omega arith, omega arith) })
+    elim c.match-labelled.branch [
+      | in-Some w ↦
+          let some : labelled_by a.t.now a.states a.byte ≡ 0 → ⊥ = λ e. omega (arith, e, rw c.of.ensures at w.in-Some.ensures.value, w.in-Some.ensures.bounds) in
+          rw (ne_eqb (labelled_by a.t.now a.states a.byte) 0 some, c.put2.ensures, c.entry.ensures, w.class-is) (refl, refl)
+      | in-None w ↦
+          let none : labelled_by a.t.now a.states a.byte ≡ 0 = sym (rw c.of.ensures at w.in-None.ensures.value) in
+          rw (eq-eqb (labelled_by a.t.now a.states a.byte) 0 none, c.put2.ensures, c.entry.ensures, w.class-is) (refl, refl)
+    ]

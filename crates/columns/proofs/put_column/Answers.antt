@@ -16,4 +16,4 @@ overflow_add-column c = omega (arith, product_small c.args.dense c.column-class.
 
 pub returns : goal.returns
 unfolding with_column
-returns c = rw (c.put2.ensures, c.column-class.ensures.0)
+returns c = rw (c.put2.ensures, c.entry.ensures, c.column-class.ensures.0, c.of.ensures)

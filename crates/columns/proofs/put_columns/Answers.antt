@@ -8,14 +8,12 @@ use Rattle.columns.proofs.put_columns.Goals as goal
 
 pub loop-byte-init : goal.loop-byte-init
 unfolding with_columns
-loop-byte-init c = (omega arith, refl, refl)
+loop-byte-init c = refl
 
 pub loop-byte-preserved : goal.loop-byte-preserved
-loop-byte-preserved c =
-    let a = c.args in
-    (omega arith, columns_turn a.t.now a.dense c.loop-byte.byte c.loop-byte.t _ c.loop-byte.invariant.1 c.put_column.ensures, omega arith)
+loop-byte-preserved c = columns_turn c.args.t.now c.args.dense c.loop-byte.byte c.loop-byte.t _ c.loop-byte.invariant c.put_column.ensures
 
-pub returns : goal.returns
-returns c =
-    let done : c.loop-byte.byte ≡ 256 = omega arith in
-    rw done at c.loop-byte.invariant.1
+pub returns-2 : goal.returns-2
+returns-2 c =
+    let last : c.loop-byte.byte ≡ 255 = omega arith in
+    rw last at (columns_turn c.args.t.now c.args.dense c.loop-byte.byte c.loop-byte.t _ c.loop-byte.invariant c.put_column.ensures)

@@ -8,18 +8,12 @@ use Rattle.depths.proofs.put_depths.Goals as goal
 
 pub loop-i-init : goal.loop-i-init
 unfolding with_depths
-loop-i-init c = (omega arith, omega arith, refl, refl)
-
-pub put_depth-requires : goal.put_depth-requires
-put_depth-requires c = (omega arith, omega (arith, c.numbered.ensures))
+loop-i-init c = refl
 
 pub loop-i-preserved : goal.loop-i-preserved
-loop-i-preserved c =
-    let a = c.args in
-    let turn = depths_turn a.t.now c.loop-i.i _ c.loop-i.t _ (omega arith) c.loop-i.invariant.2 c.numbered.ensures c.put_depth.ensures in
-    (omega arith, omega arith, turn, omega arith)
+loop-i-preserved c = depths_turn c.args.t.now c.loop-i.i _ c.loop-i.t _ (omega arith) c.loop-i.invariant c.numbered.ensures c.put_depth.ensures
 
 pub returns : goal.returns
 returns c =
     let done : c.loop-i.i ≡ c.args.states = omega arith in
-    rw done at c.loop-i.invariant.2
+    rw done at c.loop-i.invariant

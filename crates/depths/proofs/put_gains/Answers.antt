@@ -1,32 +1,32 @@
 -- Before each turn the children with smaller numbers have their gains.
 -- Assumes nothing.
-use mathlib.Core.Path.{refl}
-use native.Mathlib.Numerals.{add-one-dec}
+use mathlib.Core.Path.{◌≡◌, refl, ap, ◌∙◌}
+use Prim.Native.Nat.{ℕ, ◌+◌}
 use native.Mathlib.Omega.{arith}
+use Rattle.std.specs.declared.ops.Range.{Range}
+use Rattle.tables.specs.Reads.{first_child_in}
+use Rattle.stepping.specs.Steps.{children_end_in}
 use Rattle.depths.proofs.Turns.{gains_start, gains_further, gains_done}
 use Rattle.depths.proofs.put_gains.Goals as goal
 
 pub loop-child-init : goal.loop-child-init
-loop-child-init c =
-    let a = c.args in
-    (omega arith, omega arith, gains_start a.t.now a.parent.0 c.first_child-child.result, refl)
-
-pub put_gain-requires : goal.put_gain-requires
-put_gain-requires c = (omega arith, omega arith, omega (arith, c.numbered.ensures))
-
-pub loop-child-smaller : goal.loop-child-smaller
-loop-child-smaller c = add-one-dec _ _ c.loop-child-test.true
+loop-child-init c = (refl, omega arith, omega arith, gains_start c.args.t.now c.args.parent.0 c.into_iter-child-iterator.result.start)
 
 pub loop-child-preserved : goal.loop-child-preserved
 loop-child-preserved c =
-    let a = c.args in
-    let further = gains_further a.t.now a.parent.0 c.first_child-child.result c.loop-child.child c.numbered.result.0 c.loop-child.t _ c.loop-child.invariant.0
-    c.numbered.ensures c.loop-child.invariant.2 c.put_gain.ensures in
-    (omega arith, omega arith, further, omega arith)
+    let before = c.loop-child.invariant in
+    let next = c.loop-child.child-iterator.start in
+    let turn = c.in-Some.ensures.steps in
+    let is : c.numbered.result.0 ≡ next = c.numbered.ensures ∙ turn.1.1 in
+    let after : c.next.new.self.start ≡ next + 1 = turn.1.2 in
+    let further = gains_further c.args.t.now c.args.parent.0 c.into_iter-child-iterator.result.start next c.numbered.result.0 c.loop-child.t _ before.1 is before.3 c.put_gain.ensures in
+    rw after (turn.0 ∙ before.0, omega (arith, before.1), omega (arith, before, turn.1.0), further)
 
 pub returns : goal.returns
 returns c =
     let a = c.args in
-    let first = c.first_child-child in
-    let end = c.children_end-end in
-    gains_done a.t.now a.parent.0 first.result a.states c.loop-child.child end.result c.loop-child.t first.ensures.0 end.ensures (omega arith) c.loop-child.invariant.2
+    let before = c.loop-child.invariant in
+    let all = c.into_iter-child-iterator.result in
+    let first : all.start ≡ first_child_in a.t.now a.parent.0 = ap (λ (r : Range ℕ). r.start) c.into_iter-child-iterator.ensures.into_iter_gives ∙ (rw c.of.ensures at c.children-child-items.ensures.0) in
+    let end : all.end ≡ children_end_in a.t.now a.states a.parent.0 = ap (λ (r : Range ℕ). r.end) c.into_iter-child-iterator.ensures.into_iter_gives ∙ (rw c.of.ensures at c.children-child-items.ensures.1) in
+    gains_done a.t.now a.parent.0 all.start a.states c.loop-child.child-iterator.start all.end c.loop-child.t first end (omega (arith, before, c.in-None.ensures.steps.1.0)) before.3

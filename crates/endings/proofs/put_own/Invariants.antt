@@ -6,6 +6,3 @@ use Rattle.endings.proofs.put_own.Given as goal
 
 abbrev pub invariant-loop-p : goal.invariant-loop-p
 invariant-loop-p l = (l.p ≤ l.pieces) × (own_below l.at l.p l.t ≡ own_below l.at l.pieces l.initial.t) × (length l.t ≡ length l.initial.t)
-
-abbrev pub decreases-loop-p : goal.decreases-loop-p
-decreases-loop-p l = l.p

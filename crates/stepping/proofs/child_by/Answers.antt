@@ -2,12 +2,11 @@
 -- Assumes nothing.
 use mathlib.Core.Path.{ap₂, ◌∙◌}
 use Prim.Native.Nat.{◌-◌}
-use native.Mathlib.Omega.{arith}
 use Rattle.stepping.specs.Steps.{labelled_in, child_by_in}
 use Rattle.stepping.proofs.child_by.Goals as goal
 
-pub returns : goal.returns
+pub returns-clause-value : goal.returns-clause-value
 unfolding child_by_in
-returns c =
+returns-clause-value c =
     let a = c.args in
-    (c.labelled.ensures.0 ∙ ap₂ (λ from to. labelled_in a.t.now a.byte (to - from) from) c.first_child-from.ensures.0 c.children_end-to.ensures, omega arith)
+    c.labelled.ensures.value ∙ ap₂ (λ from to. labelled_in a.t.now a.byte (to - from) from) c.children.ensures.0 c.children.ensures.1
