@@ -22,6 +22,7 @@ use Rattle.tables.specs.Layout.{label_at, fail_at, child_at, piece_at, room_for_
 use Rattle.tables.specs.Reads.{Whole, label_in, first_child_in}
 use Rattle.tables.proofs.Parts.{number_zero}
 use Rattle.tables.proofs.Fields.{up_to_below, up_to_past}
+use Rattle.survey.specs.declared.stretch.Stretch.{Stretch}
 use Rattle.filling.specs.Keywords.{Gives}
 use Rattle.filling.specs.Turns.{Progress, with_first, after_turns, numbered, closed}
 use Rattle.filling.specs.Filled.{StatesFilled}
@@ -30,13 +31,13 @@ use Rattle.filling.proofs.Held.{Held, held_first}
 use Rattle.filling.proofs.Numbered.{after_holds}
 use Rattle.filling.proofs.Going.{after_end}
 
-module _ (text offsets lengths : List ℕ) (many : ℕ) (book : Book) (gives : Gives text offsets lengths many book)
+module _ (text : List ℕ) (words : List Stretch) (book : Book) (gives : Gives text words book)
     (room : state_count book ≤ room_for_states) (tables : List ℕ) (size : Whole tables) where
   bytes : All limits.Bytes (keywords book.phrases)
-  bytes = given_bytes text offsets lengths many book gives
+  bytes = given_bytes text words book gives
 
   abbrev done : Progress
-  done = numbered text offsets lengths many tables
+  done = numbered text words tables
 
   -- As many turns as there are states list them all.
   all_listed : listed (is_state book) byte_values (state_count book) ≡ states_of book
@@ -45,12 +46,12 @@ module _ (text offsets lengths : List ℕ) (many : ℕ) (book : Book) (gives : G
       let turns : state_count book ≡ suc (prefix_count (keywords book.phrases)) = omega (arith, count_right book bytes) in
       ap (listed (is_state book) byte_values) turns
 
-  last_turn : Held text tables (first_child book) (state_count book) (states_of book) (after_turns text offsets lengths many tables (state_count book))
-  last_turn = rw all_listed at (after_holds text offsets lengths many book gives tables size room (state_count book) (omega arith))
+  last_turn : Held text words tables (first_child book) (state_count book) (states_of book) (after_turns text words tables (state_count book))
+  last_turn = rw all_listed at (after_holds text words book gives tables size room (state_count book) (omega arith))
 
-  done_holds : Held text tables (first_child book) (state_count book) (states_of book) done
+  done_holds : Held text words tables (first_child book) (state_count book) (states_of book) done
   unfolding numbered state_count
-  done_holds = rw (after_end text offsets lengths many tables (state_count book) room_for_states room (omega (arith, last_turn.states))) last_turn
+  done_holds = rw (after_end text words tables (state_count book) room_for_states room (omega (arith, last_turn.states))) last_turn
 
   -- The code counts the states.
   pub count_filled : done.states ≡ state_count book
@@ -58,9 +59,9 @@ module _ (text offsets lengths : List ℕ) (many : ℕ) (book : Book) (gives : G
   count_filled = done_holds.states
 
   -- Last, where the children of the last state end is written: as if it were the first child of one state more.
-  closed_holds : Held text tables (first_child book) (suc (state_count book)) (states_of book) (with_first (state_count book) done)
+  closed_holds : Held text words tables (first_child book) (suc (state_count book)) (states_of book) (with_first (state_count book) done)
   unfolding state_count
-  closed_holds = held_first text tables (first_child book) (state_count book) (states_of book) done done_holds size room room (count_filled ∙ sym (first_child_end book bytes))
+  closed_holds = held_first text words tables (first_child book) (state_count book) (states_of book) done done_holds size room room (count_filled ∙ sym (first_child_end book bytes))
 
   abbrev final : List ℕ
   final = (with_first (state_count book) done).tables

@@ -4,22 +4,22 @@ use mathlib.Core.Path.{◌≡◌, refl, ap, ◌∙◌}
 use mathlib.Core.Logic.{inr, ⊎_elim}
 use mathlib.Core.Bool.{So}
 use mathlib.Core.List.{List, [], ◌∷◌, ◌++◌, map, append-nil, Memᴰ}
-use Prim.Native.Nat.{ℕ, zero, suc, ◌+◌, ◌≤◌, ◌<◌}
+use Prim.Native.Nat.{ℕ, suc, ◌+◌, ◌≤◌, ◌<◌}
 use native.Mathlib.Omega.{arith}
-use lib.ListN.{length, get_or}
+use lib.ListN.{length}
 use Rattle.meaning.specs.Books.{open_from, Piece, Book, keywords}
 use Rattle.meaning.specs.Matching.{bytes_after}
 use Rattle.meaning.specs.Automaton.{IsState, is_state, PrefixOfKeyword}
 use Rattle.meaning.proofs.States.{is_state_iff}
 use Rattle.format.specs.Limits.{All}
 use Rattle.format.specs.Limits as limits
-use Rattle.format.proofs.Lists.{all_append, all_take, all_drop}
+use Rattle.format.proofs.Lists.{all_take, all_drop}
 use Rattle.lent.specs.Numbers.{Bytes}
 use Rattle.numbering.proofs.Order.{length_snoc}
-use Rattle.filling.specs.declared.onward.Stretch.{Stretch}
+use Rattle.survey.specs.declared.stretch.Stretch.{Stretch}
+use Rattle.survey.specs.Stretches.{bytes_of}
 use Rattle.filling.specs.Keywords.{keyword_in, keywords_in, Gives}
-use Rattle.filling.specs.Onward.{bytes_of}
-use Rattle.filling.proofs.Leading.{keywords_iff, Leads, leads_prefix, prefix_leads}
+use Rattle.filling.proofs.Leading.{keyword_listed, listed_keyword, Leads, leads_prefix, prefix_leads}
 
 -- ── A book with given keywords ──
 
@@ -42,38 +42,37 @@ unfolding All
 all_bytes [] h = tt
 all_bytes (x ∷ s) h = (h 0, all_bytes s (λ k. h (suc k)))
 
-keywords_bytes : (text offsets lengths : List ℕ) → Bytes text → (n : ℕ) → All limits.Bytes (keywords_in text offsets lengths n)
-unfolding All keywords_in keyword_in bytes_after
-keywords_bytes text offsets lengths h zero = tt
-keywords_bytes text offsets lengths h (suc n) =
-    all_append limits.Bytes (keywords_in text offsets lengths n) (keyword_in text offsets lengths n ∷ []) (keywords_bytes text offsets lengths h n)
-    (all_take (λ x. x < 256) (get_or lengths n 0) _ (all_drop (λ x. x < 256) (get_or offsets n 0) text (all_bytes text h)), tt)
+keywords_bytes : (text : List ℕ) (words : List Stretch) → Bytes text → All limits.Bytes (keywords_in text words)
+unfolding All keywords_in bytes_of bytes_after
+keywords_bytes text [] h = tt
+keywords_bytes text (word ∷ words) h =
+    (all_take (λ x. x < 256) word.count _ (all_drop (λ x. x < 256) word.offset text (all_bytes text h)), keywords_bytes text words h)
 
 -- ── The states of the book ──
 
-module _ (text offsets lengths : List ℕ) (count : ℕ) (book : Book) (gives : Gives text offsets lengths count book) where
+module _ (text : List ℕ) (words : List Stretch) (book : Book) (gives : Gives text words book) where
   pub given_bytes : All limits.Bytes (keywords book.phrases)
-  given_bytes = rw gives.all at (keywords_bytes text offsets lengths gives.bytes count)
+  given_bytes = rw gives.all at (keywords_bytes text words gives.bytes)
 
   -- A keyword that is given is one of the book's.
-  pub given_listed : (q : ℕ) → q < count → Memᴰ (keyword_in text offsets lengths q) (keywords book.phrases)
-  given_listed q l = rw gives.all at ((keywords_iff text offsets lengths count (keyword_in text offsets lengths q)).1 (q, l, refl))
+  pub given_listed : (q : ℕ) → q < length words → Memᴰ (keyword_in text words q) (keywords book.phrases)
+  given_listed q l = rw gives.all at (keyword_listed text words q l)
 
   module _ (state : Stretch) (room : state.offset + state.count ≤ length text) (a : ℕ) where
-    pub state_leads : So (is_state book (bytes_of text state ++ a ∷ [])) → (q : ℕ) × (q < count) × Leads text offsets lengths state q a
+    pub state_leads : So (is_state book (bytes_of text state ++ a ∷ [])) → (q : ℕ) × (q < length words) × Leads text words state q a
     unfolding IsState
     state_leads h = ⊎_elim
         (λ (e : bytes_of text state ++ a ∷ [] ≡ []). absurd (omega (arith, ap length e, length_snoc (bytes_of text state) a)))
         (λ (p : PrefixOfKeyword book (bytes_of text state ++ a ∷ [])).
-        let r = (keywords_iff text offsets lengths count p.keyword).0 (rw gives.all p.listed) in
-        (r.0, r.1, prefix_leads text offsets lengths state count gives.inside room r.0 a r.1 (rw r.2 at p.starts)))
+        let r = listed_keyword text words p.keyword (rw gives.all p.listed) in
+        (r.0, r.1, prefix_leads text words state gives.inside room r.0 a r.1 (rw r.2 at p.starts)))
         ((is_state_iff book (bytes_of text state ++ a ∷ [])).0 h)
 
-    pub leads_state : (q : ℕ) → q < count → Leads text offsets lengths state q a → So (is_state book (bytes_of text state ++ a ∷ []))
+    pub leads_state : (q : ℕ) → q < length words → Leads text words state q a → So (is_state book (bytes_of text state ++ a ∷ []))
     unfolding IsState
     leads_state q l h = (is_state_iff book (bytes_of text state ++ a ∷ [])).1
         (inr (record {
-          keyword = keyword_in text offsets lengths q;
+          keyword = keyword_in text words q;
           listed = given_listed q l;
-          starts = leads_prefix text offsets lengths state count gives.inside room q a l h;
+          starts = leads_prefix text words state gives.inside room q a l h;
         }))

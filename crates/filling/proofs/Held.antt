@@ -3,10 +3,10 @@
 use mathlib.Core.Path.{◌≡◌, refl, sym, ap, ◌∙◌}
 use mathlib.Core.Logic.{◌⊎◌, inl, inr, ⊎_elim}
 use mathlib.Core.List.{List, [], ◌∷◌, ◌++◌}
-use Prim.Native.Nat.{ℕ, suc, ◌+◌, ◌-◌, ◌*◌, ◌≤◌, ◌<◌}
+use Prim.Native.Nat.{ℕ, zero, suc, ◌+◌, ◌*◌, ◌≤◌, ◌<◌}
 use native.Mathlib.Nat.{le-suc_iff}
 use native.Mathlib.Omega.{arith}
-use lib.ListN.{length, get_or, length-set, length-replicate, get_or-append}
+use lib.ListN.{length, get_or, replicate, length-set, length-replicate, get_or-append}
 use lib.Seq.{get_or_at, get_or-set_same, get_or-set_other}
 use Rattle.meaning.specs.Matching.{bytes_after}
 use Rattle.format.specs.Limits.{longest_keyword}
@@ -15,40 +15,51 @@ use Rattle.lent.proofs.Numbers.{length_with_number, number_byte_apart, number_ap
 use Rattle.numbering.specs.States.{last_byte}
 use Rattle.tables.specs.Layout.{label_at, child_at, room_for_states}
 use Rattle.tables.specs.Reads.{Whole, label_in, first_child_in}
-use Rattle.filling.specs.Turns.{Progress, begun, numbered_child, with_first}
-use Rattle.filling.proofs.Leading.{zeros}
+use Rattle.survey.specs.declared.stretch.Stretch.{Stretch}
+use Rattle.survey.specs.Stretches.{nowhere, bytes_of}
+use Rattle.filling.specs.declared.turns.Start.{Start}
+use Rattle.filling.specs.Keywords.{Inside}
+use Rattle.filling.specs.Turns.{start, root, stretch_of, Progress, begun, numbered_child, state_stretch, with_first}
 
--- A string stands in the text: so many bytes, from an offset on.
-pub record Stands (text : List ℕ) (offset count : ℕ) (string : List ℕ) : Type 0 where
-  pub is : bytes_after offset count text ≡ string
-  pub inside : offset + count ≤ length text
-  pub short : count ≤ longest_keyword
+-- A string stands in the text, as the bytes of a stretch.
+pub record Stands (text : List ℕ) (state : Stretch) (string : List ℕ) : Type 0 where
+  pub is : bytes_of text state ≡ string
+  pub inside : state.offset + state.count ≤ length text
+  pub short : state.count ≤ longest_keyword
 
 -- The numbering has not written a byte of the tables, once so many states have a number, and so many have had their turn.
 abbrev pub Elsewhere : ℕ → ℕ → ℕ → Type 0
 Elsewhere states turns k = (k ≤ label_at) ⊎ (((label_at + states ≤ k) × (k < child_at)) ⊎ (child_at + 2 * turns ≤ k))
 
+all_root : (n v : ℕ) → get_or (replicate {A = Start} n root) v root ≡ root
+all_root zero v = refl
+all_root (suc n) zero = refl
+all_root (suc n) (suc v) = all_root n v
+
+-- No bytes from where a keyword begins lie in the text.
+first_inside : (text : List ℕ) (words : List Stretch) → Inside text words → (get_or words 0 nowhere).offset + 0 ≤ length text
+first_inside text [] inside = omega arith
+first_inside text (word ∷ words) inside = omega (arith, inside.ends 0 (omega arith))
+
 -- Numbered are the strings of a list; the first children of so many are written, each as it should be.
-pub record Held (text tables : List ℕ) (first : ℕ → ℕ) (turns : ℕ) (list : List (List ℕ)) (p : Progress) : Type 0 where
+pub record Held (text : List ℕ) (words : List Stretch) (tables : List ℕ) (first : ℕ → ℕ) (turns : ℕ) (list : List (List ℕ)) (p : Progress) : Type 0 where
   pub states : p.states ≡ length list
   pub some : 0 < length list
-  pub begins : length p.begins ≡ room_for_states
-  pub counts : length p.counts ≡ room_for_states
+  pub starts : length p.starts ≡ room_for_states
   pub whole : length p.tables ≡ length tables
-  pub strings : (v : ℕ) → v < length list → Stands text (get_or p.begins v 0) (get_or p.counts v 0) (get_or list v [])
+  pub strings : (v : ℕ) → v < length list → Stands text (state_stretch words p v) (get_or list v [])
   pub labels : (v : ℕ) → 0 < v → v < length list → label_in p.tables v ≡ last_byte (get_or list v [])
   pub firsts : (j : ℕ) → j < turns → first_child_in p.tables j ≡ first j
   pub kept : (k : ℕ) → Elsewhere (length list) turns k → get_or p.tables k 0 ≡ get_or tables k 0
 
-pub held_begun : (text tables : List ℕ) (first : ℕ → ℕ) → Held text tables first 0 ([] ∷ []) (begun tables)
-unfolding bytes_after
-held_begun text tables first = record {
+pub held_begun : (text : List ℕ) (words : List Stretch) (tables : List ℕ) (first : ℕ → ℕ) → Inside text words → Held text words tables first 0 ([] ∷ []) (begun tables)
+unfolding bytes_after bytes_of state_stretch stretch_of
+held_begun text words tables first inside = record {
   states = refl;
   some = omega arith;
-  begins = length-replicate {A = ℕ} room_for_states 0;
-  counts = length-replicate {A = ℕ} room_for_states 0;
+  starts = length-replicate {A = Start} room_for_states root;
   whole = refl;
-  strings = λ v l. let e : v ≡ 0 = omega arith in rw (zeros room_for_states v, e) (record { is = refl; inside = omega arith; short = omega arith });
+  strings = λ v l. let e : v ≡ 0 = omega arith in rw (all_root room_for_states v, e) (record { is = refl; inside = first_inside text words inside; short = omega arith });
   labels = λ v p l. absurd (omega arith);
   firsts = λ j l. absurd (omega arith);
   kept = λ k e. refl;
@@ -58,20 +69,19 @@ held_begun text tables first = record {
 last_or_not : {A : Type 0} (list : List A) (x : A) (v : ℕ) → v < length (list ++ x ∷ []) → (v < length list) ⊎ (v ≡ length list)
 last_or_not list x v l = ⊎_elim (λ (k : suc v ≤ length list). inl k) (λ (e : suc v ≡ suc (length list)). inr (omega arith)) (le-suc_iff.0 (omega (arith, length_further list x)))
 
-module _ (text tables : List ℕ) (first : ℕ → ℕ) (turns : ℕ) (list : List (List ℕ)) (p : Progress) (held : Held text tables first turns list p) (size : Whole tables) where
+module _ (text : List ℕ) (words : List Stretch) (tables : List ℕ) (first : ℕ → ℕ) (turns : ℕ) (list : List (List ℕ)) (p : Progress) (held : Held text words tables first turns list p) (size : Whole tables) where
   -- ── One child more ──
 
-  module _ (room : length list < room_for_states) (noted count byte : ℕ) (string : List ℕ) (stands : Stands text (noted - 1) count string) (last : last_byte string ≡ byte) where
+  module _ (room : length list < room_for_states) (keyword count byte : ℕ) (string : List ℕ) (stands : Stands text (stretch_of words (start keyword count)) string) (last : last_byte string ≡ byte) where
     abbrev next : Progress
-    next = numbered_child count byte noted p
+    next = numbered_child count byte keyword p
 
-    pub held_child : Held text tables first turns (list ++ string ∷ []) next
-    unfolding numbered_child
+    pub held_child : Held text words tables first turns (list ++ string ∷ []) next
+    unfolding numbered_child state_stretch
     held_child = record {
       states = omega (arith, held.states, length_further list string);
       some = omega (arith, length_further list string);
-      begins = length-set p.begins p.states (noted - 1) ∙ held.begins;
-      counts = length-set p.counts p.states count ∙ held.counts;
+      starts = length-set p.starts p.states (start keyword count) ∙ held.starts;
       whole = length-set p.tables (label_at + p.states) byte ∙ held.whole;
       strings = λ v l. ⊎_elim (old_string v) (new_string v) (last_or_not list string v l);
       labels = λ v k l. ⊎_elim (old_label v k) (new_label v) (last_or_not list string v l);
@@ -85,15 +95,15 @@ module _ (text tables : List ℕ) (first : ℕ → ℕ) (turns : ℕ) (list : Li
         new : (v : ℕ) → v ≡ length list → get_or (list ++ string ∷ []) v [] ≡ string
         new v e = get_or_at list string [] [] v (sym e)
 
-        old_string : (v : ℕ) → v < length list → Stands text (get_or next.begins v 0) (get_or next.counts v 0) (get_or (list ++ string ∷ []) v [])
+        old_string : (v : ℕ) → v < length list → Stands text (state_stretch words next v) (get_or (list ++ string ∷ []) v [])
         old_string v l =
             let other : v ≡ p.states → ⊥ = λ e. omega (arith, held.states) in
-            rw (get_or-set_other p.begins p.states v (noted - 1) 0 other, get_or-set_other p.counts p.states v count 0 other, old v l) (held.strings v l)
+            rw (get_or-set_other p.starts p.states v (start keyword count) root other, old v l) (held.strings v l)
 
-        new_string : (v : ℕ) → v ≡ length list → Stands text (get_or next.begins v 0) (get_or next.counts v 0) (get_or (list ++ string ∷ []) v [])
+        new_string : (v : ℕ) → v ≡ length list → Stands text (state_stretch words next v) (get_or (list ++ string ∷ []) v [])
         new_string v e =
             let here : v ≡ p.states = e ∙ sym held.states in
-            rw (new v e, here, get_or-set_same p.begins p.states (noted - 1) 0 (omega (arith, held.begins, held.states)), get_or-set_same p.counts p.states count 0 (omega (arith, held.counts, held.states))) stands
+            rw (new v e, here, get_or-set_same p.starts p.states (start keyword count) root (omega (arith, held.starts, held.states))) stands
 
         old_label : (v : ℕ) → 0 < v → v < length list → label_in next.tables v ≡ last_byte (get_or (list ++ string ∷ []) v [])
         old_label v k l =
@@ -120,13 +130,12 @@ module _ (text tables : List ℕ) (first : ℕ → ℕ) (turns : ℕ) (list : Li
   -- ── One first child more ──
 
   module _ (room : length list ≤ room_for_states) (few : turns ≤ room_for_states) (is : p.states ≡ first turns) where
-    pub held_first : Held text tables first (suc turns) list (with_first turns p)
-    unfolding with_first
+    pub held_first : Held text words tables first (suc turns) list (with_first turns p)
+    unfolding with_first state_stretch
     held_first = record {
       states = held.states;
       some = held.some;
-      begins = held.begins;
-      counts = held.counts;
+      starts = held.starts;
       whole = length_with_number 2 p.tables (child_at + 2 * turns) _ ∙ held.whole;
       strings = held.strings;
       labels = λ v k l. number_byte_apart 2 p.tables (child_at + 2 * turns) _ (label_at + v) (inl (omega arith)) ∙ held.labels v k l;

@@ -2,21 +2,17 @@
 -- Assumes nothing.
 use mathlib.Core.Path.{◌≡◌, ap, ◌∙◌}
 use mathlib.Core.List.{List, [], ◌∷◌, ◌++◌}
-use Prim.Native.Nat.{ℕ, suc, ◌+◌, ◌≤◌, ◌<◌}
+use Prim.Native.Nat.{ℕ, ◌+◌, ◌≤◌, ◌<◌}
 use native.Mathlib.Numerals.{add-one}
 use native.Mathlib.Omega.{arith}
 use lib.ListN.{length, get_or, take, drop, length-drop}
-use lib.Seq.{drop-cons, length-take-le, take-suc, take-take, get_or-take, get_or-drop}
+use lib.Seq.{length-take-le, take-suc, take-take, get_or-take, get_or-drop}
 use Rattle.meaning.specs.Matching.{bytes_after}
 
 module _ (text : List ℕ) (offset : ℕ) where
   pub length_after : (n : ℕ) → offset + n ≤ length text → length (bytes_after offset n text) ≡ n
   unfolding bytes_after
   length_after n h = length-take-le n (drop offset text) (simp length-drop (omega arith))
-
-  pub after_first : (n : ℕ) → offset < length text → bytes_after offset (suc n) text ≡ get_or text offset 0 ∷ bytes_after (offset + 1) n text
-  unfolding bytes_after
-  after_first n h = rw (drop-cons text offset 0 h, add-one)
 
   pub after_further : (n : ℕ) → offset + n < length text → bytes_after offset (n + 1) text ≡ bytes_after offset n text ++ get_or text (offset + n) 0 ∷ []
   unfolding bytes_after

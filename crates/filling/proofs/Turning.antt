@@ -1,47 +1,42 @@
 -- One child and one turn at a time; a child that gets a number raises the count, so room for all is room for each.
 -- Assumes nothing.
-use mathlib.Core.Path.{◌≡◌, refl, ap, ap₂, ◌∙◌}
+use mathlib.Core.Path.{◌≡◌, refl, ◌∙◌}
+use mathlib.Core.Bool.{false≢true}
 use mathlib.Core.Logic.{⊎_elim}
 use mathlib.Core.List.{List}
 use Prim.Native.Nat.{ℕ, zero, suc, ◌+◌, ◌≤◌, ◌<◌}
 use native.Mathlib.Nat.{le-suc_iff}
 use native.Mathlib.Numerals.{add-one}
 use native.Mathlib.Omega.{arith}
-use lib.ListN.{get_or}
-use borrow.Author.Tests.{eq-eqb, ne_eqb}
-use Rattle.lent.proofs.Cases.{eq_or_ne}
+use lib.ListN.{length, get_or}
+use Rattle.std.specs.Prelude.{Option, Some, None, IsSome}
 use Rattle.numbering.specs.States.{byte_values}
-use Rattle.filling.specs.declared.onward.Stretch.{Stretch}
-use Rattle.filling.specs.Onward.{stretch, onward_from}
-use Rattle.filling.specs.Turns.{Progress, progress, numbered_child, with_child, with_children, state_stretch, with_first, with_turn}
+use Rattle.survey.specs.declared.stretch.Stretch.{Stretch}
+use Rattle.filling.specs.Onward.{onward_from}
+use Rattle.filling.specs.Turns.{Progress, progress, root, stretch_of, numbered_child, with_child, with_children, state_stretch, with_first, with_turn}
 
 -- ── One child ──
 
-module _ (count byte noted : ℕ) (p : Progress) where
-  pub child_not : noted ≡ 0 → with_child count byte noted p ≡ p
-  unfolding with_child
-  child_not h = rw (eq-eqb noted 0 h)
+child_grows : (count byte : ℕ) (noted : Option ℕ) (p : Progress) → p.states ≤ (with_child count byte noted p).states
+unfolding with_child numbered_child
+child_grows count byte None p = omega arith
+child_grows count byte (Some keyword) p = omega arith
 
-  pub child_numbered : (noted ≡ 0 → ⊥) → with_child count byte noted p ≡ numbered_child count byte noted p
-  unfolding with_child
-  child_numbered h = rw (ne_eqb noted 0 h)
-
-  child_grows : p.states ≤ (with_child count byte noted p).states
-  unfolding numbered_child
-  child_grows = ⊎_elim
-      (λ (e : noted ≡ 0). rw (child_not e) (omega arith))
-      (λ (h : noted ≡ 0 → ⊥). rw (child_numbered h) (omega arith))
-      (eq_or_ne noted 0)
+-- A child by a byte of which something is noted is one more.
+child_one : (count byte : ℕ) (noted : Option ℕ) (p : Progress) → IsSome noted → (with_child count byte noted p).states ≡ p.states + 1
+unfolding with_child numbered_child
+child_one count byte None p some = absurd (false≢true some)
+child_one count byte (Some keyword) p some = refl
 
 -- ── The children of a state ──
 
-module _ (count : ℕ) (onward : List ℕ) (p : Progress) where
+module _ (count : ℕ) (onward : List (Option ℕ)) (p : Progress) where
   pub children_start : p ≡ with_children count onward 0 p
   unfolding with_children
   children_start = refl
 
   pub children_further : (byte : ℕ) (before now : Progress) → before ≡ with_children count onward byte p
-      → now ≡ with_child count byte (get_or onward byte 0) before → now ≡ with_children count onward (byte + 1) p
+      → now ≡ with_child count byte (get_or onward byte None) before → now ≡ with_children count onward (byte + 1) p
   unfolding with_children
   children_further byte before now e h = rw (add-one, ← e) h
 
@@ -49,36 +44,34 @@ module _ (count : ℕ) (onward : List ℕ) (p : Progress) where
   unfolding with_children
   children_grow a zero h = let e : a ≡ 0 = omega arith in rw e (omega arith)
   children_grow a (suc b) h = ⊎_elim
-      (λ (l : a ≤ b). omega (arith, children_grow a b l, child_grows count b (get_or onward b 0) (with_children count onward b p)))
+      (λ (l : a ≤ b). omega (arith, children_grow a b l, child_grows count b (get_or onward b None) (with_children count onward b p)))
       (λ (e : a ≡ suc b). rw e (omega arith))
       (le-suc_iff.0 h)
 
   -- Where a byte has something noted of it, there is room for its child if there is room for all.
   pub children_room : (byte bytes room : ℕ) → byte < bytes → (with_children count onward bytes p).states ≤ room
-      → (now : Progress) → now ≡ with_children count onward byte p → (get_or onward byte 0 ≡ 0 → ⊥) → now.states < room
-  unfolding with_children numbered_child
+      → (now : Progress) → now ≡ with_children count onward byte p → (IsSome (get_or onward byte None)) → now.states < room
+  unfolding with_children
   children_room byte bytes room l h now e some =
-      let one : (with_child count byte (get_or onward byte 0) (with_children count onward byte p)).states ≡ (with_children count onward byte p).states + 1
-      = ap (λ (q : Progress). q.states) (child_numbered count byte (get_or onward byte 0) (with_children count onward byte p) some) in
+      let one : (with_child count byte (get_or onward byte None) (with_children count onward byte p)).states ≡ (with_children count onward byte p).states + 1
+      = child_one count byte (get_or onward byte None) (with_children count onward byte p) some in
       rw e (omega (arith, one, children_grow (suc byte) bytes l))
 
 -- ── One turn ──
 
-module _ (text offsets lengths : List ℕ) (keywords i : ℕ) (p : Progress) (written onward : List ℕ) (state : Stretch)
-    (first : progress written p.begins p.counts p.states ≡ with_first i p)
-    (begins : state.offset ≡ get_or p.begins i 0) (counts : state.count ≡ get_or p.counts i 0)
-    (goes_on : onward ≡ onward_from text offsets lengths state keywords) where
-  pub turn_is : with_children (get_or p.counts i 0 + 1) onward byte_values (progress written p.begins p.counts p.states) ≡ with_turn text offsets lengths keywords i p
-  unfolding with_turn state_stretch
-  turn_is =
-      let s : state ≡ stretch (get_or p.begins i 0) (get_or p.counts i 0) = ap₂ {C = Stretch} stretch begins counts in
-      rw (goes_on, s, first)
+module _ (text : List ℕ) (words : List Stretch) (i : ℕ) (p : Progress) (written : List ℕ) (onward : List (Option ℕ)) (state : Stretch)
+    (first : progress written p.starts p.states ≡ with_first i p)
+    (stands : state ≡ stretch_of words (get_or p.starts i root))
+    (goes_on : onward ≡ onward_from text words state (length words)) where
+  pub turn_is : with_children (state.count + 1) onward byte_values (progress written p.starts p.states) ≡ with_turn text words i p
+  unfolding with_turn state_stretch stretch_of
+  turn_is = rw (goes_on, stands, first) refl
 
-  pub turn_taken : {after : Progress} → after ≡ with_children (get_or p.counts i 0 + 1) onward byte_values (progress written p.begins p.counts p.states)
-      → after ≡ with_turn text offsets lengths keywords i p
+  pub turn_taken : {after : Progress} → after ≡ with_children (state.count + 1) onward byte_values (progress written p.starts p.states)
+      → after ≡ with_turn text words i p
   turn_taken numbered = numbered ∙ turn_is
 
   -- Room for all after the turn is room for its children.
-  pub turn_room : (room : ℕ) → (with_turn text offsets lengths keywords i p).states ≤ room
-      → (with_children (get_or p.counts i 0 + 1) onward byte_values (progress written p.begins p.counts p.states)).states ≤ room
+  pub turn_room : (room : ℕ) → (with_turn text words i p).states ≤ room
+      → (with_children (state.count + 1) onward byte_values (progress written p.starts p.states)).states ≤ room
   turn_room room h = rw turn_is h

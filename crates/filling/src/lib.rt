@@ -1,8 +1,9 @@
 // Fills labels and first children of the table memory: the states of some keywords get their numbers.
 #![tactic(auto)]
 
+mod keywords;
 mod onward;
 mod turns;
 
-pub use onward::{KEYWORDS, Stretch, keyword_at};
+pub use keywords::Keywords;
 pub use turns::number_states;

@@ -20,6 +20,7 @@ use Rattle.tables.specs.Reads.{Whole, fail_in}
 use Rattle.tables.proofs.Parts.{number_one, number_zero}
 use Rattle.tables.proofs.Fields.{up_to_below, up_to_past}
 use Rattle.stepping.specs.Held.{HoldsStates, HoldsFailures}
+use Rattle.survey.specs.declared.stretch.Stretch.{Stretch}
 use Rattle.filling.specs.Keywords.{Gives}
 use Rattle.filling.specs.Turns.{numbered, closed}
 use Rattle.filling.specs.Filled.{StatesFilled}
@@ -82,15 +83,15 @@ module _ (book : Book) (bytes : All limits.Bytes (keywords book.phrases)) (room 
       elsewhere k (inr e) = inr (inr e)
 
 -- Both passes, one after the other, on memory whose three regions are zero: they hold what the layout has for the book.
-pub filled : (text offsets lengths : List ℕ) (many : ℕ) (book : Book) → Gives text offsets lengths many book → state_count book ≤ room_for_states
+pub filled : (text : List ℕ) (words : List Stretch) (book : Book) → Gives text words book → state_count book ≤ room_for_states
     → (tables : List ℕ) → Whole tables → Zero label_at piece_at tables
-    → Filled book tables (linked (closed (numbered text offsets lengths many tables)) (numbered text offsets lengths many tables).states)
-filled text offsets lengths many book gives room tables size zeros =
+    → Filled book tables (linked (closed (numbered text words tables)) (numbered text words tables).states)
+filled text words book gives room tables size zeros =
     subst
-    (λ (states : ℕ). Filled book tables (linked (closed (numbered text offsets lengths many tables)) states))
-    (sym (count_filled text offsets lengths many book gives room tables size))
-    (linked_filled book (given_bytes text offsets lengths many book gives) room tables (closed (numbered text offsets lengths many tables)) size
-    (states_filled text offsets lengths many book gives room tables size (λ k a b. zeros k (omega arith) (omega arith)) (λ k a b. zeros k (omega arith) (omega arith)))
+    (λ (states : ℕ). Filled book tables (linked (closed (numbered text words tables)) states))
+    (sym (count_filled text words book gives room tables size))
+    (linked_filled book (given_bytes text words book gives) room tables (closed (numbered text words tables)) size
+    (states_filled text words book gives room tables size (λ k a b. zeros k (omega arith) (omega arith)) (λ k a b. zeros k (omega arith) (omega arith)))
     (λ k a b. zeros k (omega arith) (omega arith)))
 
 -- What is filled can be walked: the tables hold the book's states and failures.

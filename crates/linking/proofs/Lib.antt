@@ -1,4 +1,5 @@
 pub mod Turns
+pub mod Words
 pub mod Linked
 pub mod Filled
 pub mod Downward

@@ -1,19 +1,19 @@
 -- The pieces of a book come in the order of its keywords, so what is found for keyword p is the state of piece p's keyword.
 -- Assumes nothing.
 use mathlib.Core.Path.{◌≡◌, refl, sym, ap, ap₂, ◌∙◌}
-use mathlib.Core.Logic.{⊎_elim}
 use mathlib.Core.List.{List, [], ◌∷◌, ◌++◌, map, map-append}
-use Prim.Native.Nat.{ℕ, zero, suc, ◌+◌, ◌≤◌, ◌<◌}
+use Prim.Native.Nat.{ℕ, ◌+◌, ◌<◌}
 use native.Mathlib.Omega.{arith}
-use lib.ListN.{length, get_or, length-map, get_or-append, get_or-map}
-use lib.Seq.{get_or_at}
+use lib.ListN as list
+use lib.ListN.{length, get_or, length-map}
+use Rattle.std.proofs.lemmas.List.{get_or-map}
 use Rattle.meaning.specs.Books.{Piece, Phrase, Book, keywords}
-use Rattle.format.proofs.Lists.{length_further}
-use Rattle.lent.proofs.Cases.{lt_or_le}
 use Rattle.numbering.specs.States.{state_count, number_in}
 use Rattle.tables.specs.Spots.{Spot, spots_after, spots_from, spots_of, no_spot, spot_at, spot_count}
 use Rattle.tables.specs.Endings.{keyword_of}
 use Rattle.stepping.specs.Held.{HoldsStates}
+use Rattle.survey.specs.declared.stretch.Stretch.{Stretch}
+use Rattle.survey.specs.Stretches.{nowhere, bytes_of}
 use Rattle.filling.specs.Keywords.{keyword_in, keywords_in, Gives}
 use Rattle.linking.specs.Keywords.{keyword_states}
 use Rattle.linking.proofs.Downward.{states_right}
@@ -38,7 +38,7 @@ from_keywords rank (phrase ∷ rest) =
 -- Piece p's keyword is the book's keyword p.
 pub keyword_of_lem : (book : Book) (p : ℕ) → keyword_of book p ≡ get_or (keywords book.phrases) p []
 unfolding keyword_of spot_at spots_of
-keyword_of_lem book p = sym (get_or-map keyword_at (spots_of book) p no_spot) ∙ ap (λ l. get_or l p []) (from_keywords 0 book.phrases)
+keyword_of_lem book p = sym (list.get_or-map keyword_at (spots_of book) p no_spot) ∙ ap (λ l. get_or l p []) (from_keywords 0 book.phrases)
 
 pub keyword_count : (book : Book) → spot_count book ≡ length (keywords book.phrases)
 unfolding spot_count spots_of
@@ -46,35 +46,26 @@ keyword_count book = sym (length-map (spots_of book) keyword_at) ∙ ap length (
 
 -- ── The keywords that are given ──
 
-pub length_keywords : (text offsets lengths : List ℕ) (n : ℕ) → length (keywords_in text offsets lengths n) ≡ n
+pub length_keywords : (text : List ℕ) (words : List Stretch) → length (keywords_in text words) ≡ length words
 unfolding keywords_in
-length_keywords text offsets lengths zero = refl
-length_keywords text offsets lengths (suc n) = omega (arith, length_further (keywords_in text offsets lengths n) (keyword_in text offsets lengths n), length_keywords text offsets lengths n)
+length_keywords text words = length-map words (bytes_of text)
 
-pub keywords_at : (text offsets lengths : List ℕ) (n q : ℕ) → q < n → get_or (keywords_in text offsets lengths n) q [] ≡ keyword_in text offsets lengths q
-unfolding keywords_in
-keywords_at text offsets lengths zero q l = absurd (omega arith)
-keywords_at text offsets lengths (suc n) q l = ⊎_elim
-    (λ (k : q < n).
-    get_or-append (keywords_in text offsets lengths n) (keyword_in text offsets lengths n ∷ []) [] q (omega (arith, length_keywords text offsets lengths n))
-    ∙ keywords_at text offsets lengths n q k)
-    (λ (k : n ≤ q).
-    let here : q ≡ n = omega arith in
-    rw here (get_or_at (keywords_in text offsets lengths n) (keyword_in text offsets lengths n) [] [] n (length_keywords text offsets lengths n)))
-    (lt_or_le q n)
+pub keywords_at : (text : List ℕ) (words : List Stretch) (q : ℕ) → q < length words → get_or (keywords_in text words) q [] ≡ keyword_in text words q
+unfolding keywords_in keyword_in
+keywords_at text words q l = get_or-map (bytes_of text) words q nowhere [] l
 
-module _ (text offsets lengths : List ℕ) (many : ℕ) (book : Book) (gives : Gives text offsets lengths many book) where
+module _ (text : List ℕ) (words : List Stretch) (book : Book) (gives : Gives text words book) where
   -- As many keywords are given as the book has pieces.
-  pub given_count : many ≡ spot_count book
-  given_count = sym (length_keywords text offsets lengths many) ∙ ap length gives.all ∙ sym (keyword_count book)
+  pub given_count : length words ≡ spot_count book
+  given_count = sym (length_keywords text words) ∙ ap length gives.all ∙ sym (keyword_count book)
 
-  pub given_keyword : (p : ℕ) → p < spot_count book → keyword_in text offsets lengths p ≡ keyword_of book p
+  pub given_keyword : (p : ℕ) → p < spot_count book → keyword_in text words p ≡ keyword_of book p
   given_keyword p l =
-      sym (keywords_at text offsets lengths many p (omega (arith, given_count)))
+      sym (keywords_at text words p (omega (arith, given_count)))
       ∙ ap {B = List ℕ} (λ l. get_or l p []) gives.all
       ∙ sym (keyword_of_lem book p)
 
   -- On tables that hold the book's states, what is found for each piece is the state of its keyword.
   pub piece_states : (t : List ℕ) → HoldsStates book t → (p : ℕ) → p < spot_count book
-      → get_or (keyword_states t (state_count book) text offsets lengths many) p 0 ≡ number_in book (keyword_of book p)
-  piece_states t held p l = states_right text offsets lengths many book gives t held p (omega (arith, given_count)) ∙ ap (number_in book) (given_keyword p l)
+      → get_or (keyword_states t (state_count book) text words (length words)) p 0 ≡ number_in book (keyword_of book p)
+  piece_states t held p l = states_right text words book gives t held p (omega (arith, given_count)) ∙ ap (number_in book) (given_keyword p l)

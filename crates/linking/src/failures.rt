@@ -5,23 +5,25 @@ ghost use Rattle.tables.specs.Reads.{Whole};
 ghost use Rattle.linking.specs.Failures.{failure_of_child, with_failure, with_children_of, linked};
 
 use counters::State;
+use tables::Tables;
 use tables::layout::FAIL;
 
 // A child fails to where its last byte leads from the failure of its parent.
-fn failure_of_child(t: &[u8], states: usize, parent: State, child: State) -> State
-    requires { (Whole t.now) × (states ≤ room_for_states) × (parent.0 < states) × (child.0 < states) }
+fn failure_of_child(t: &Tables, states: usize, parent: State, child: State) -> State
+    requires { (states ≤ room_for_states) × (parent.0 < states) × (child.0 < states) }
     ensures { result.0 ≡ failure_of_child t.now states parent.0 child.0 }
 {
-    let from = tables::failure(t, parent);
-    let stepped = stepping::next_state(t, states, from, tables::label(t, child));
+    let from = t.failure(parent);
+    let stepped = stepping::next_state(t, states, from, t.label(child));
     stepped.state
 }
 
+// Kept, no plainer: with `struct Filled<'a> { bytes: &'a mut [u8] }` each method would need one clause more: that the borrow keeps its ghost name.
 fn link_child(t: &mut [u8], states: usize, parent: State, child: State)
     requires { (Whole t.old) × (states ≤ room_for_states) × (parent.0 < states) × (child.0 < states) }
     ensures { t.new ≡ with_failure t.old states parent.0 child.0 }
 {
-    let failure = failure_of_child(t, states, parent, child);
+    let failure = failure_of_child(&Tables::of(t), states, parent, child);
     lent::put2(t, FAIL + 2 * child.index(), failure.number());
 }
 
@@ -29,11 +31,8 @@ fn link_children(t: &mut [u8], states: usize, parent: State)
     requires { (Whole t.old) × (states ≤ room_for_states) × (parent.0 < states) }
     ensures { t.new ≡ with_children_of t.old states parent.0 }
 {
-    let end = stepping::children_end(t, states, parent);
-    let mut child = tables::first_child(t, parent);
-    while child < end {
+    for child in stepping::children(&Tables::of(t), states, parent) {
         link_child(t, states, parent, State::numbered(child as u16));
-        child += 1;
     }
 }
 

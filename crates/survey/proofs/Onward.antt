@@ -8,99 +8,100 @@ use lib.Dec.{ltb}
 use lib.ListN.{length, set}
 use borrow.Author.Tests.{lt-ltb, le-ltb}
 use Rattle.tables.specs.Layout.{room_for_pieces, room_for_phrases}
-use Rattle.records.specs.declared.records.Cursor.{Cursor}
+use Rattle.std.proofs.Common.{Result, Ok, Err}
+use Rattle.records.specs.declared.refusals.Refused.{Refused}
+use Rattle.records.specs.declared.records.Record.{Record}
+use Rattle.records.specs.declared.records.Record.TheVariants.{Header, Phrase, Bounded, Open, Keyword, End}
 use Rattle.records.specs.declared.records.Found.{Found}
-use Rattle.records.specs.declared.records.Found.TheVariants.{Header, Phrase, Bounded, Open, Keyword, End, Refused}
 use Rattle.records.specs.Records.{read_at}
 use Rattle.records.specs.Readers.{past_of}
-use Rattle.records.specs.Prefixes.{Inside}
+use Rattle.records.specs.Prefixes.{Lies, Inside}
 use Rattle.records.proofs.Shared.{read_inside, goes_ahead}
 use Rattle.counters.specs.declared.Number.{Number}
 use Rattle.counters.specs.declared.Rank.{Rank}
 use Rattle.counters.specs.Counters.{rank_of}
 use Rattle.survey.specs.declared.entries.Entry.{Entry}
 use Rattle.survey.specs.declared.progress.Progress.{Progress}
-use Rattle.survey.specs.declared.turns.Word.{Word}
+use Rattle.survey.specs.declared.stretch.Stretch.{Stretch}
+use Rattle.survey.specs.Stretches.{stretch}
 use Rattle.survey.specs.Progress.{moved_to, after_name, after_piece}
 use Rattle.survey.specs.Entries.{with_phrase, with_piece}
-use Rattle.survey.specs.Turns.{noted, Reading, reading, phrase_turn, entry_for, keyword_turn, turn_for, turn_at}
+use Rattle.survey.specs.Turns.{noted, Reading, reading, phrase_turn, entry_for, keyword_turn, record_turn, turn_for, turn_at}
 use Rattle.survey.proofs.Stored.{length_with_phrase, length_with_piece}
-use Rattle.survey.proofs.Found.{Short, read_short}
+use Rattle.survey.proofs.Found.{ShortRecord, Short, read_short}
 
 -- ── What the reader told ──
 
-module _ (bytes : List ℕ) (now : Reading) {found told : Found} (is : found ≡ read_at bytes now.progress.at) (tells : found ≡ told) where
-  pub turn_told : turn_for bytes now told ≡ turn_at bytes now
-  unfolding turn_at
-  turn_told = ap (turn_for bytes now) (sym tells ∙ is)
-
+module _ (bytes : List ℕ) (now : Reading) {found : Found} (is : Ok found ≡ read_at bytes now.progress.at) {says : Record} (tells : found.says ≡ says) where
   -- What a record leaves is what the turn leaves.
-  pub turned : {after : Reading} → after ≡ turn_for bytes now told → after ≡ turn_at bytes now
-  turned left = left ∙ turn_told
-
-  -- Behind the record stands what was passed.
-  pub passed_told : {next : ℕ} → next ≡ past_of found (length bytes) → next ≡ past_of told (length bytes)
-  passed_told is-past = is-past ∙ ap (λ (f : Found). past_of f (length bytes)) tells
+  pub turned : {after : Reading} → after ≡ record_turn bytes now says found.next.at → after ≡ turn_at bytes now
+  unfolding turn_at
+  turned left = left ∙ ap (λ (told : Record). record_turn bytes now told found.next.at) (sym tells) ∙ ap (turn_for bytes now) is
 
   -- A keyword lies in the book,
-  pub inside_told : Inside bytes told
-  inside_told = subst (Inside bytes) (sym is ∙ tells) (read_inside bytes now.progress.at)
+  pub lies_told : Lies bytes says
+  lies_told = subst (Lies bytes) tells (subst (Inside bytes) (sym is) (read_inside bytes now.progress.at))
 
   -- and is short.
-  pub short_told : Short told
-  short_told = subst Short (sym is ∙ tells) (read_short bytes now.progress.at)
+  pub short_told : ShortRecord says
+  short_told = subst ShortRecord tells (subst Short (sym is) (read_short bytes now.progress.at))
 
 -- What is no phrase, no gap and no keyword.
-pub record Passed (found : Found) : Type 0 where
-  pub no_phrase : (number : Number) (rights : ℕ) (next : Cursor) → found ≡ Phrase number rights next → ⊥
-  pub no_bounded : (least most : ℕ) (next : Cursor) → found ≡ Bounded least most next → ⊥
-  pub no_open : (least : ℕ) (next : Cursor) → found ≡ Open least next → ⊥
-  pub no_keyword : (start count : ℕ) (next : Cursor) → found ≡ Keyword start count next → ⊥
+pub record Passed (says : Record) : Type 0 where
+  pub no_phrase : (number : Number) (rights : ℕ) → says ≡ Phrase number rights → ⊥
+  pub no_bounded : (least most : ℕ) → says ≡ Bounded least most → ⊥
+  pub no_open : (least : ℕ) → says ≡ Open least → ⊥
+  pub no_keyword : (start count : ℕ) → says ≡ Keyword start count → ⊥
 
 -- It only moves the progress on, past it.
 module _ (bytes : List ℕ) (now : Reading) where
-  passed_by : (found : Found) → Passed found → reading (moved_to (past_of found (length bytes)) now.progress) now.notes ≡ turn_for bytes now found
-  passed_by (Header edition next) other = refl
-  passed_by (Phrase number rights next) other = absurd (other.no_phrase number rights next refl)
-  passed_by (Bounded least most next) other = absurd (other.no_bounded least most next refl)
-  passed_by (Open least next) other = absurd (other.no_open least next refl)
-  passed_by (Keyword start count next) other = absurd (other.no_keyword start count next refl)
-  passed_by (End count next) other = refl
-  passed_by (Refused why at) other = refl
+  passed_by : (says : Record) → Passed says → (next : ℕ) → reading (moved_to next now.progress) now.notes ≡ record_turn bytes now says next
+  passed_by (Header edition) other next = refl
+  passed_by (Phrase number rights) other next = absurd (other.no_phrase number rights refl)
+  passed_by (Bounded least most) other next = absurd (other.no_bounded least most refl)
+  passed_by (Open least) other next = absurd (other.no_open least refl)
+  passed_by (Keyword start count) other next = absurd (other.no_keyword start count refl)
+  passed_by (End count) other next = refl
 
-  pub passed_turn : {found : Found} {next : ℕ} {onward : Progress} → found ≡ read_at bytes now.progress.at → Passed found
-      → next ≡ past_of found (length bytes) → onward ≡ moved_to next now.progress → reading onward now.notes ≡ turn_at bytes now
-  passed_turn {found = found} is other past moved =
-      turned bytes now is refl (ap (λ (p : Progress). reading p now.notes) (moved ∙ ap (λ (k : ℕ). moved_to k now.progress) past) ∙ passed_by found other)
+  pub passed_turn : {found : Found} {onward : Progress} → Ok found ≡ read_at bytes now.progress.at → Passed found.says
+      → onward ≡ moved_to found.next.at now.progress → reading onward now.notes ≡ turn_at bytes now
+  passed_turn {found = found} is other moved =
+      turned bytes now is refl (ap (λ (p : Progress). reading p now.notes) moved ∙ passed_by found.says other found.next.at)
+
+  -- Where no record is found, the progress moves on to the book's end.
+  pub refused_turn : {refused : Refused} {onward : Progress} → Err refused ≡ read_at bytes now.progress.at
+      → onward ≡ moved_to (length bytes) now.progress → reading onward now.notes ≡ turn_at bytes now
+  unfolding turn_at
+  refused_turn is moved = ap (λ (p : Progress). reading p now.notes) moved ∙ ap (turn_for bytes now) is
 
 -- ── What the code stored ──
 
 -- The entry of the phrase, and the progress behind its record, are the turn of a phrase.
-pub phrase_stored : (tables offsets lengths : List ℕ) (progress : Progress) (number : Number) (rights next : ℕ) {stored : List ℕ} {rank : Rank} {onward : Progress}
+pub phrase_stored : (tables : List ℕ) (words : List Stretch) (progress : Progress) (number : Number) (rights next : ℕ) {stored : List ℕ} {rank : Rank} {onward : Progress}
     → progress.phrases < room_for_phrases
     → stored ≡ with_phrase rank.0 number.0 rights tables
     → onward ≡ after_name rank next progress
     → rank ≡ rank_of progress.phrases
-    → reading onward (noted stored offsets lengths) ≡ phrase_turn number rights next (reading progress (noted tables offsets lengths))
+    → reading onward (noted stored words) ≡ phrase_turn number rights next (reading progress (noted tables words))
 unfolding phrase_turn
-phrase_stored tables offsets lengths progress number rights next few put is ranked = rw (lt-ltb progress.phrases room_for_phrases few, is, put, ranked)
+phrase_stored tables words progress number rights next few put is ranked = rw (lt-ltb progress.phrases room_for_phrases few, is, put, ranked)
 
-module _ (bytes tables offsets lengths : List ℕ) (progress : Progress) where
+module _ (bytes tables : List ℕ) (words : List Stretch) (progress : Progress) where
   -- Where there is no room, only the progress moves on.
-  pub keyword_full : (word : Word) {onward : Progress} → room_for_pieces ≤ progress.pieces → onward ≡ moved_to word.next progress
-      → reading onward (noted tables offsets lengths) ≡ keyword_turn bytes word (reading progress (noted tables offsets lengths))
+  pub keyword_full : (word : Stretch) (next : ℕ) {onward : Progress} → room_for_pieces ≤ progress.pieces → onward ≡ moved_to next progress
+      → reading onward (noted tables words) ≡ keyword_turn bytes word next (reading progress (noted tables words))
   unfolding keyword_turn
-  keyword_full word full is = rw (le-ltb progress.pieces room_for_pieces full, is)
+  keyword_full word next full is = rw (le-ltb progress.pieces room_for_pieces full, is)
 
   -- The entry of the piece, the keyword noted, and the progress behind it are the turn of a keyword.
-  pub keyword_stored : (word : Word) {stored : List ℕ} {entry : Entry} {onward : Progress} → progress.pieces < room_for_pieces
+  pub keyword_stored : (word : Stretch) (next : ℕ) {stored : List ℕ} {entry : Entry} {onward : Progress} → progress.pieces < room_for_pieces
       → stored ≡ with_piece progress.pieces entry tables
-      → onward ≡ after_piece word.next progress
-      → entry ≡ entry_for bytes progress word
-      → reading onward (noted stored (set offsets progress.pieces word.start) (set lengths progress.pieces word.count))
-      ≡ keyword_turn bytes word (reading progress (noted tables offsets lengths))
+      → onward ≡ after_piece next progress
+      → entry ≡ entry_for bytes progress word next
+      → reading onward (noted stored (set words progress.pieces word))
+      ≡ keyword_turn bytes word next (reading progress (noted tables words))
   unfolding keyword_turn
-  keyword_stored word few put is entered = rw (lt-ltb progress.pieces room_for_pieces few, is, put, entered)
+  keyword_stored word next few put is entered = rw (lt-ltb progress.pieces room_for_pieces few, is, put, entered)
 
 -- ── Where the turn goes on ──
 
@@ -120,26 +121,29 @@ module _ (bytes : List ℕ) (now : Reading) where
       either (λ later. Arrives now later next) (ltb now.progress.phrases room_for_phrases)
       (record { there = refl; long = length_with_phrase now.progress.phrases number.0 rights now.notes.tables }) (record { there = refl; long = refl })
 
-  keyword_on : (word : Word) → Arrives now (keyword_turn bytes word now) word.next
+  keyword_on : (word : Stretch) (next : ℕ) → Arrives now (keyword_turn bytes word next now) next
   unfolding keyword_turn
-  keyword_on word =
-      either (λ later. Arrives now later word.next) (ltb now.progress.pieces room_for_pieces)
-      (record { there = refl; long = length_with_piece now.progress.pieces (entry_for bytes now.progress word) now.notes.tables }) (record { there = refl; long = refl })
+  keyword_on word next =
+      either (λ later. Arrives now later next) (ltb now.progress.pieces room_for_pieces)
+      (record { there = refl; long = length_with_piece now.progress.pieces (entry_for bytes now.progress word next) now.notes.tables }) (record { there = refl; long = refl })
 
-  found_on : (found : Found) → Arrives now (turn_for bytes now found) (past_of found (length bytes))
-  found_on (Header edition next) = record { there = refl; long = refl }
-  found_on (Phrase number rights next) = phrase_on number rights next.at
-  found_on (Bounded least most next) = record { there = refl; long = refl }
-  found_on (Open least next) = record { there = refl; long = refl }
-  found_on (Keyword start count next) = keyword_on (record { start = start; count = count; next = next.at })
-  found_on (End count next) = record { there = refl; long = refl }
-  found_on (Refused why at) = record { there = refl; long = refl }
+  record_on : (says : Record) (next : ℕ) → Arrives now (record_turn bytes now says next) next
+  record_on (Header edition) next = record { there = refl; long = refl }
+  record_on (Phrase number rights) next = phrase_on number rights next
+  record_on (Bounded least most) next = record { there = refl; long = refl }
+  record_on (Open least) next = record { there = refl; long = refl }
+  record_on (Keyword start count) next = keyword_on (stretch start count) next
+  record_on (End count) next = record { there = refl; long = refl }
+
+  found_on : (found : Result Found Refused) → Arrives now (turn_for bytes now found) (past_of found (length bytes))
+  found_on (Ok found) = record_on found.says found.next.at
+  found_on (Err refused) = record { there = refl; long = refl }
 
   -- A turn goes on ahead,
   pub turn_ahead : now.progress.at < length bytes → now.progress.at < (turn_at bytes now).progress.at
   unfolding turn_at
   turn_ahead more =
-      let found : Found = read_at bytes now.progress.at in
+      let found : Result Found Refused = read_at bytes now.progress.at in
       omega (arith, (found_on found).there, goes_ahead bytes now.progress.at (length bytes) refl refl more)
 
   -- and leaves the table memory as long as it was.

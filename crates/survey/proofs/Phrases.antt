@@ -14,8 +14,8 @@ use Rattle.tables.specs.Spots.{Spot, none_left, spots_after, spots_from}
 use Rattle.tables.proofs.Spots.{length_after}
 use Rattle.tables.specs.Layout.{room_for_pieces, room_for_phrases}
 use Rattle.tables.specs.Reads.{Whole}
-use Rattle.survey.specs.Turns.{Notes, is_gap, gap_at}
-use Rattle.survey.proofs.Records.{gap_found, name_reads, gap_reads, end_reads}
+use Rattle.survey.specs.Turns.{Notes, is_gap, found_gap, gap_at}
+use Rattle.survey.proofs.Records.{gap_said, name_reads, gap_reads, end_reads}
 use Rattle.survey.proofs.Steps.{Anywhere, InPhrase, Come, name_step, gap_step, keyword_step}
 
 -- ── What follows a keyword ──
@@ -24,28 +24,28 @@ use Rattle.survey.proofs.Steps.{Anywhere, InPhrase, Come, name_step, gap_step, k
 abbrev pub NoGap : List ℕ → List ℕ → Type 0
 NoGap bytes rest = (offset : ℕ) → drop offset bytes ≡ rest → gap_at bytes offset ≡ false
 
-is_gap_lem : (gap : Gap) (next : ℕ) → is_gap (gap_found gap next) ≡ true
-is_gap_lem (bounded least most) next = refl
-is_gap_lem (open_from least) next = refl
+is_gap_lem : (gap : Gap) → is_gap (gap_said gap) ≡ true
+is_gap_lem (bounded least most) = refl
+is_gap_lem (open_from least) = refl
 
 module _ (bytes : List ℕ) where
   end_no_gap : (count : ℕ) → NoGap bytes (written_end count)
   unfolding gap_at
-  end_no_gap count offset here = ap is_gap (end_reads bytes offset [] count (here ∙ sym (append-nil (written_end count)))).finds
+  end_no_gap count offset here = ap found_gap (end_reads bytes offset [] count (here ∙ sym (append-nil (written_end count)))).finds
 
   -- Behind the pieces of a phrase comes another phrase or the end.
   phrases_no_gap : (phrases : List Phrase) (count : ℕ) → NoGap bytes (written_phrases phrases ++ written_end count)
   unfolding gap_at written_phrases
   phrases_no_gap [] count offset here = end_no_gap count offset here
   phrases_no_gap (phrase ∷ phrases) count offset here =
-      ap is_gap (name_reads bytes offset ((written_pieces phrase.pieces ++ written_phrases phrases) ++ written_end count) phrase (here ∙ append_assoc (written_name phrase) (written_pieces phrase.pieces ++ written_phrases phrases) (written_end count))).finds
+      ap found_gap (name_reads bytes offset ((written_pieces phrase.pieces ++ written_phrases phrases) ++ written_end count) phrase (here ∙ append_assoc (written_name phrase) (written_pieces phrase.pieces ++ written_phrases phrases) (written_end count))).finds
 
   -- A gap follows exactly where a piece is left.
   follows : (pieces : List Piece) (rest : List ℕ) → NoGap bytes rest → (offset : ℕ) → drop offset bytes ≡ written_pieces pieces ++ rest → not (gap_at bytes offset) ≡ none_left pieces
   unfolding gap_at written_pieces none_left
   follows [] rest none offset here = ap not (none offset here)
   follows (piece ∷ pieces) rest none offset here =
-      ap not (ap is_gap (gap_reads bytes offset ((written_keyword piece.keyword ++ written_pieces pieces) ++ rest) piece.gap (here ∙ append_assoc (written_gap piece.gap) (written_keyword piece.keyword ++ written_pieces pieces) rest)).finds ∙ is_gap_lem piece.gap _)
+      ap not (ap found_gap (gap_reads bytes offset ((written_keyword piece.keyword ++ written_pieces pieces) ++ rest) piece.gap (here ∙ append_assoc (written_gap piece.gap) (written_keyword piece.keyword ++ written_pieces pieces) rest)).finds ∙ is_gap_lem piece.gap)
 
 -- ── The pieces of a phrase ──
 

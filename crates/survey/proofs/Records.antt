@@ -13,18 +13,21 @@ use Rattle.format.specs.Written.{header_kind, phrase_kind, bounded_kind, open_ki
 use Rattle.format.specs.Faults.{body_length, two, is_keyword}
 use Rattle.format.proofs.FirstFault.{keyword_is, keyword_only, keyword_length}
 use Rattle.format.proofs.Records.{two_read}
-use Rattle.records.specs.declared.records.Found.{Found}
-use Rattle.records.specs.declared.records.Found.TheVariants as found
-use Rattle.records.specs.Records.{known, cursor_at, body_at, found_for, whole_at, read_at}
+use Rattle.std.proofs.Common.{Ok}
+use Rattle.records.specs.declared.records.Record.{Record}
+use Rattle.records.specs.declared.records.Record.TheVariants as says
+use Rattle.records.specs.Kinds.{known}
+use Rattle.records.specs.Records.{cursor_at, body_at, record_for, whole_at, read_at}
 use Rattle.records.proofs.Standing.{read_whole}
 use Rattle.counters.specs.Counters.{number_of}
+use Rattle.survey.specs.Stretches.{stretch, bytes_of}
 use Rattle.survey.specs.Meant.{Located}
 
 -- What is found at an offset, and the offset behind it, where the rest of the book stands.
-pub record Reads (bytes : List ℕ) (at : ℕ) (told : ℕ → Found) (rest : List ℕ) : Type 0 where
+pub record Reads (bytes : List ℕ) (at : ℕ) (told : Record) (rest : List ℕ) : Type 0 where
   pub more : at < length bytes
   pub next : ℕ
-  pub finds : read_at bytes at ≡ told next
+  pub finds : read_at bytes at ≡ Ok (record { says = told; next = cursor_at next })
   pub behind : drop next bytes ≡ rest
 
 module _ (bytes : List ℕ) (at k : ℕ) (body rest : List ℕ) (here : drop at bytes ≡ k ∷ (body ++ rest)) where
@@ -41,16 +44,16 @@ module _ (bytes : List ℕ) (at k : ℕ) (body rest : List ℕ) (here : drop at 
 
   module _ (is : So (known k)) (long : length body ≡ body_length k) where
     -- A record of a known kind with a body of its length.
-    record_reads : (told : ℕ → Found) → found_for at k body ≡ told (at + (1 + body_length k)) → Reads bytes at told rest
+    record_reads : (told : Record) → record_for at k body ≡ told → Reads bytes at told rest
     unfolding whole_at body_at
     record_reads told tells = record {
       more = inside;
       next = at + (1 + body_length k);
       finds =
           sym (read_whole bytes at inside (rw kind_here is) (rw kind_here (rw behind_kind (omega (arith, length-append body rest)))))
-          ∙ ap (λ (kind : ℕ). whole_at bytes at kind) kind_here
-          ∙ ap (found_for at k) (ap (take (body_length k)) behind_kind ∙ take_at body rest (body_length k) long)
-          ∙ tells;
+          ∙ ap (λ (kind : ℕ). Ok (whole_at bytes at kind)) kind_here
+          ∙ ap (λ (says : Record). Ok (record { says = says; next = cursor_at (at + (1 + body_length k)) }))
+          (ap (record_for at k) (ap (take (body_length k)) behind_kind ∙ take_at body rest (body_length k) long) ∙ tells);
       behind =
           let same : at + (1 + body_length k) ≡ at + 1 + body_length k = omega arith in
           ap (λ (i : ℕ). drop i bytes) same ∙ sym (drop-drop (body_length k) (at + 1) bytes) ∙ ap (drop (body_length k)) behind_kind ∙ drop_at body rest (body_length k) long;
@@ -58,49 +61,49 @@ module _ (bytes : List ℕ) (at k : ℕ) (body rest : List ℕ) (here : drop at 
 
 -- ── Each kind of record ──
 
--- How a gap is found.
-abbrev pub gap_found : Gap → ℕ → Found
-gap_found (bounded least most) next = found.Bounded least most (cursor_at next)
-gap_found (open_from least) next = found.Open least (cursor_at next)
+-- How a gap is said.
+abbrev pub gap_said : Gap → Record
+gap_said (bounded least most) = says.Bounded least most
+gap_said (open_from least) = says.Open least
 
 -- Each record is found as what it says, and read past.
 module _ (bytes : List ℕ) (at : ℕ) (rest : List ℕ) where
-  pub header_reads : drop at bytes ≡ written_header ++ rest → Reads bytes at (λ next. found.Header the_edition (cursor_at next)) rest
-  unfolding written_header known found_for body_length
-  header_reads here = record_reads bytes at header_kind (the_edition ∷ []) rest here refl refl (λ next. found.Header the_edition (cursor_at next)) refl
+  pub header_reads : drop at bytes ≡ written_header ++ rest → Reads bytes at (says.Header the_edition) rest
+  unfolding written_header known record_for body_length
+  header_reads here = record_reads bytes at header_kind (the_edition ∷ []) rest here refl refl (says.Header the_edition) refl
 
   pub name_reads : (phrase : Phrase) → drop at bytes ≡ written_name phrase ++ rest
-      → Reads bytes at (λ next. found.Phrase (number_of phrase.number) phrase.rights (cursor_at next)) rest
-  unfolding written_name two_bytes known found_for body_length two
+      → Reads bytes at (says.Phrase (number_of phrase.number) phrase.rights) rest
+  unfolding written_name two_bytes known record_for body_length two
   name_reads phrase here =
-      record_reads bytes at phrase_kind (two_bytes phrase.number ++ phrase.rights ∷ []) rest here refl refl (λ next. found.Phrase (number_of phrase.number) phrase.rights (cursor_at next))
+      record_reads bytes at phrase_kind (two_bytes phrase.number ++ phrase.rights ∷ []) rest here refl refl (says.Phrase (number_of phrase.number) phrase.rights)
       (rw (two_read phrase.number))
 
-  pub gap_reads : (gap : Gap) → drop at bytes ≡ written_gap gap ++ rest → Reads bytes at (gap_found gap) rest
-  unfolding written_gap two_bytes known found_for body_length two
+  pub gap_reads : (gap : Gap) → drop at bytes ≡ written_gap gap ++ rest → Reads bytes at (gap_said gap) rest
+  unfolding written_gap two_bytes known record_for body_length two
   gap_reads (bounded least most) here =
-      record_reads bytes at bounded_kind (two_bytes least ++ two_bytes most) rest here refl refl (gap_found (bounded least most))
+      record_reads bytes at bounded_kind (two_bytes least ++ two_bytes most) rest here refl refl (gap_said (bounded least most))
       (rw (two_read least, two_read most))
   gap_reads (open_from least) here =
-      record_reads bytes at open_kind (two_bytes least) rest here refl refl (gap_found (open_from least)) (rw (two_read least))
+      record_reads bytes at open_kind (two_bytes least) rest here refl refl (gap_said (open_from least)) (rw (two_read least))
 
-  pub end_reads : (count : ℕ) → drop at bytes ≡ written_end count ++ rest → Reads bytes at (λ next. found.End count (cursor_at next)) rest
-  unfolding written_end two_bytes known found_for body_length two
-  end_reads count here = record_reads bytes at end_kind (two_bytes count) rest here refl refl (λ next. found.End count (cursor_at next)) (rw (two_read count))
+  pub end_reads : (count : ℕ) → drop at bytes ≡ written_end count ++ rest → Reads bytes at (says.End count) rest
+  unfolding written_end two_bytes known record_for body_length two
+  end_reads count here = record_reads bytes at end_kind (two_bytes count) rest here refl refl (says.End count) (rw (two_read count))
 
   module _ (keyword : List ℕ) (long : Between 1 longest_keyword (length keyword)) (here : drop at bytes ≡ written_keyword keyword ++ rest) where
-    pub keyword_reads : Reads bytes at (λ next. found.Keyword (at + 1) (length keyword) (cursor_at next)) rest
-    unfolding written_keyword known found_for body_length
+    pub keyword_reads : Reads bytes at (says.Keyword (at + 1) (length keyword)) rest
+    unfolding written_keyword known record_for body_length
     keyword_reads =
         let k : ℕ = keyword_base + length keyword in
         let word : So (is_keyword k) = keyword_is (length keyword) long in
         let same : k - keyword_base ≡ length keyword = omega arith in
-        record_reads bytes at k keyword rest here (simp (keyword_only k word, word)) (sym (keyword_length k word ∙ same)) (λ next. found.Keyword (at + 1) (length keyword) (cursor_at next))
-        (simp (keyword_only k word) (ap (λ (count : ℕ). found.Keyword (at + 1) count (cursor_at (at + (1 + (k - keyword_base))))) same))
+        record_reads bytes at k keyword rest here (simp (keyword_only k word, word)) (sym (keyword_length k word ∙ same)) (says.Keyword (at + 1) (length keyword))
+        (simp (keyword_only k word) (ap (λ (count : ℕ). says.Keyword (at + 1) count) same))
 
     -- The keyword stands behind its kind.
-    pub keyword_located : Located bytes keyword (at + 1) (length keyword)
-    unfolding bytes_after written_keyword
+    pub keyword_located : Located bytes keyword (stretch (at + 1) (length keyword))
+    unfolding bytes_of bytes_after written_keyword
     keyword_located = record {
       there = ap (take (length keyword)) (behind_kind bytes at (keyword_base + length keyword) keyword rest here) ∙ take_at keyword rest (length keyword) refl;
       inside = omega (arith, length-drop at bytes, ap length here, length-append keyword rest);

@@ -49,7 +49,7 @@ module _ (book : Book) (bytes : List ℕ) (before : Notes) (blank : Blank before
       named = refl;
       pieced = refl;
       held = held_blank before blank;
-      noting = record { offsets_room = blank.offsets; lengths_room = blank.lengths; each = λ p inside. absurd (omega arith) };
+      noting = record { words_room = blank.words; each = λ p inside. absurd (omega arith) };
     };
     is = tt;
   }
@@ -76,6 +76,7 @@ module _ (book : Book) (bytes : List ℕ) (before : Notes) (blank : Blank before
       phrases = through.kept.named;
       pieces = through.kept.pieced;
       entered = entered book before.tables through.now.notes.tables through.kept.held;
+      room = through.kept.noting.words_room;
       keywords = through.kept.noting.each;
     }
 

@@ -11,21 +11,21 @@ use Rattle.meaning.specs.Windows.{least_of, delay}
 use Rattle.format.specs.Limits.{GapWithin, PieceWithin}
 use Rattle.format.specs.Written.{written_header, written_name, written_gap, written_keyword, written_end}
 use Rattle.format.proofs.Lists.{length_further}
-use Rattle.records.specs.declared.records.Found.{Found}
-use Rattle.records.specs.declared.records.Found.TheVariants as found
-use Rattle.records.specs.Records.{cursor_at}
+use Rattle.records.specs.declared.records.Record.{Record}
+use Rattle.records.specs.declared.records.Record.TheVariants as says
 use Rattle.counters.specs.Counters.{number_of, rank_of}
 use Rattle.tables.specs.Spots.{Spot, none_left}
 use Rattle.tables.specs.Layout.{room_for_pieces, room_for_phrases, gap_span, spot_ends}
 use Rattle.tables.specs.Reads.{Whole}
 use Rattle.tables.proofs.Spots.{delay_within}
 use Rattle.survey.specs.declared.progress.Progress.{Progress}
-use Rattle.survey.specs.declared.turns.Word.{Word}
+use Rattle.survey.specs.declared.stretch.Stretch.{Stretch}
+use Rattle.survey.specs.Stretches.{stretch}
 use Rattle.survey.specs.Progress.{moved_to, after_name, after_gap, after_piece}
 use Rattle.survey.specs.Entries.{with_phrase, with_piece}
-use Rattle.survey.specs.Turns.{Notes, noted, Reading, reading, gap_at, phrase_turn, entry_for, keyword_turn, turn_for, turn_at}
+use Rattle.survey.specs.Turns.{Notes, noted, Reading, reading, gap_at, phrase_turn, entry_for, keyword_turn, record_turn, turn_for, turn_at}
 use Rattle.survey.proofs.Loop.{Going, going_more}
-use Rattle.survey.proofs.Records.{Reads, header_reads, name_reads, gap_found, gap_reads, end_reads, keyword_reads, keyword_located}
+use Rattle.survey.proofs.Records.{Reads, header_reads, name_reads, gap_said, gap_reads, end_reads, keyword_reads, keyword_located}
 use Rattle.survey.proofs.Held.{Held, Says, held_phrase, held_piece}
 use Rattle.survey.proofs.Noting.{Noting, noting_more}
 
@@ -55,11 +55,11 @@ span_short (bounded least most) within = omega (arith, within.1)
 span_short (open_from least) within = omega arith
 
 -- With the gap that was read last, the keyword's length and what follows, the entry is that of the spot.
-entry_says : (bytes : List ℕ) (progress : Progress) (word : Word) (spot : Spot) → PieceWithin spot.piece
+entry_says : (bytes : List ℕ) (progress : Progress) (word : Stretch) (next : ℕ) (spot : Spot) → PieceWithin spot.piece
     → AfterGap spot.rank (none_left spot.before) spot.piece.gap progress → word.count ≡ length spot.piece.keyword
-    → not (gap_at bytes word.next) ≡ spot.last → Says (entry_for bytes progress word) spot
+    → not (gap_at bytes next) ≡ spot.last → Says (entry_for bytes progress word next) spot
 unfolding entry_for delay spot_ends
-entry_says bytes progress word spot within after count last = record {
+entry_says bytes progress word next spot within after count last = record {
   delays = omega (arith, after.opens, (delay_within spot.piece within).1);
   spans = after.closes;
   ranks = after.ranked;
@@ -75,7 +75,7 @@ pub record Kept (bytes : List ℕ) (before : Notes) (spots : List Spot) (phrases
   pub named : phraseCount ≡ length phrases
   pub pieced : piece_count ≡ length spots
   pub held : Held before.tables spots phrases notes.tables
-  pub noting : Noting bytes spots notes.offsets notes.lengths
+  pub noting : Noting bytes spots notes.words
 
 module _ (bytes : List ℕ) (before : Notes) where
   -- So much was entered where this rest of the book begins.
@@ -87,16 +87,16 @@ module _ (bytes : List ℕ) (before : Notes) where
     pub is : P now.progress
 
   -- A turn over a record that is read goes on.
-  turned : {spots : List Spot} {phrases : List Phrase} {here rest : List ℕ} {P : Progress → Type 0} {told : ℕ → Found}
+  turned : {spots : List Spot} {phrases : List Phrase} {here rest : List ℕ} {P : Progress → Type 0} {told : Record}
       (come : Come spots phrases here P) (reads : Reads bytes come.now.progress.at told rest)
-      (next : Reading) → next ≡ turn_for bytes come.now (told reads.next) → Going bytes before next
+      (next : Reading) → next ≡ record_turn bytes come.now told reads.next → Going bytes before next
   unfolding turn_at
   turned come reads next e = (going_more bytes before come.now come.going reads.more next (e ∙ ap (turn_for bytes come.now) (sym reads.finds))).1
 
   -- ── A record that leaves nothing ──
 
-  pass : {spots : List Spot} {phrases : List Phrase} {here rest : List ℕ} (told : ℕ → Found)
-      → ((now : Reading) (next : ℕ) → turn_for bytes now (told next) ≡ reading (moved_to next now.progress) now.notes)
+  pass : {spots : List Spot} {phrases : List Phrase} {here rest : List ℕ} (told : Record)
+      → ((now : Reading) (next : ℕ) → record_turn bytes now told next ≡ reading (moved_to next now.progress) now.notes)
       → (come : Come spots phrases here Anywhere) → Reads bytes come.now.progress.at told rest → Come spots phrases rest Anywhere
   pass told moves come reads = record {
     now = reading (moved_to reads.next come.now.progress) come.now.notes;
@@ -128,13 +128,13 @@ module _ (bytes : List ℕ) (before : Notes) where
     is = record { ranked = come.is.ranked; begins = come.is.begins; opens = refl; closes = refl };
   }
     where
-      reads : Reads bytes come.now.progress.at (gap_found gap) rest
+      reads : Reads bytes come.now.progress.at (gap_said gap) rest
       reads = gap_reads bytes come.now.progress.at rest gap come.behind
 
       next : Reading
       next = reading (after_gap (least_of gap) (gap_span gap) reads.next come.now.progress) come.now.notes
 
-      by : (gap : Gap) (offset : ℕ) → reading (after_gap (least_of gap) (gap_span gap) offset come.now.progress) come.now.notes ≡ turn_for bytes come.now (gap_found gap offset)
+      by : (gap : Gap) (offset : ℕ) → reading (after_gap (least_of gap) (gap_span gap) offset come.now.progress) come.now.notes ≡ record_turn bytes come.now (gap_said gap) offset
       by (bounded least most) offset = refl
       by (open_from least) offset = refl
 
@@ -167,12 +167,12 @@ module _ (bytes : List ℕ) (before : Notes) where
         there : come.now.progress.phrases < room_for_phrases
         there = omega (arith, come.kept.named)
 
-        reads : Reads bytes come.now.progress.at (λ next. found.Phrase (number_of phrase.number) phrase.rights (cursor_at next)) rest
+        reads : Reads bytes come.now.progress.at (says.Phrase (number_of phrase.number) phrase.rights) rest
         reads = name_reads bytes come.now.progress.at rest phrase come.behind
 
         next : Reading
         next = reading (after_name (rank_of progress.phrases) reads.next progress)
-            (noted (with_phrase progress.phrases phrase.number phrase.rights come.now.notes.tables) come.now.notes.offsets come.now.notes.lengths)
+            (noted (with_phrase progress.phrases phrase.number phrase.rights come.now.notes.tables) come.now.notes.words)
 
     -- ── A keyword ──
 
@@ -189,9 +189,9 @@ module _ (bytes : List ℕ) (before : Notes) where
       kept = record {
         named = kept.named;
         pieced = omega (arith, kept.pieced, length_further spots spot);
-        held = held_piece before.tables whole spots phrases notes.tables kept.held progress.pieces kept.pieced there (entry_for bytes progress word) spot
-            (entry_says bytes progress word spot within come.is refl (follows reads.next reads.behind));
-        noting = noting_more bytes spots notes.offsets notes.lengths kept.noting progress.pieces kept.pieced there spot word.start word.count
+        held = held_piece before.tables whole spots phrases notes.tables kept.held progress.pieces kept.pieced there (entry_for bytes progress word reads.next) spot
+            (entry_says bytes progress word reads.next spot within come.is refl (follows reads.next reads.behind));
+        noting = noting_more bytes spots notes.words kept.noting progress.pieces kept.pieced there spot word
             (keyword_located bytes progress.at rest spot.piece.keyword within.long come.behind);
       };
       is = record { ranked = come.is.ranked; begins = refl };
@@ -209,12 +209,12 @@ module _ (bytes : List ℕ) (before : Notes) where
         there : come.now.progress.pieces < room_for_pieces
         there = omega (arith, come.kept.pieced)
 
-        reads : Reads bytes come.now.progress.at (λ next. found.Keyword (come.now.progress.at + 1) (length spot.piece.keyword) (cursor_at next)) rest
+        reads : Reads bytes come.now.progress.at (says.Keyword (come.now.progress.at + 1) (length spot.piece.keyword)) rest
         reads = keyword_reads bytes come.now.progress.at rest spot.piece.keyword within.long come.behind
 
-        word : Word
-        word = record { start = come.now.progress.at + 1; count = length spot.piece.keyword; next = reads.next }
+        word : Stretch
+        word = stretch (come.now.progress.at + 1) (length spot.piece.keyword)
 
         next : Reading
         next = reading (after_piece reads.next progress)
-            (noted (with_piece progress.pieces (entry_for bytes progress word) notes.tables) (set notes.offsets progress.pieces word.start) (set notes.lengths progress.pieces word.count))
+            (noted (with_piece progress.pieces (entry_for bytes progress word reads.next) notes.tables) (set notes.words progress.pieces word))

@@ -1,3 +1,4 @@
+pub mod Stretches
 pub mod Progress
 pub mod Entries
 pub mod Turns

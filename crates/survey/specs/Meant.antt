@@ -2,7 +2,6 @@
 use Rattle.std.specs.Prelude.{◌≡◌, ◌⊎◌, List, ℕ, ◌+◌, ◌*◌, ◌≤◌, ◌<◌, length, get_or}
 use Rattle.lent.specs.Zeros.{Zero}
 use Rattle.meaning.specs.Books.{Book}
-use Rattle.meaning.specs.Matching.{bytes_after}
 use Rattle.format.specs.Limits.{longest_keyword}
 use Rattle.tables.specs.Spots.{spot_count}
 use Rattle.tables.specs.Endings.{keyword_of}
@@ -10,14 +9,15 @@ use Rattle.tables.specs.Layout.{piece_at, phrase_at, rows_at, room_for_pieces, r
 use Rattle.tables.specs.Layout.{delay_of, span_of, rank_of, ends_of, number_of_rank, rights_of_rank}
 use Rattle.tables.specs.Reads.{Whole, delay_in, span_in, link_in, rank_in, ends_in, phrase_number_in, phrase_rights_in}
 use Rattle.survey.specs.declared.Surveyed.{Surveyed}
+use Rattle.survey.specs.declared.stretch.Stretch.{Stretch}
+use Rattle.survey.specs.Stretches.{nowhere, bytes_of}
 use Rattle.survey.specs.Turns.{Notes}
 
 -- What build lends: table memory whose regions of pieces and phrases are zero, and room for 256 keywords.
 pub record Blank (before : Notes) : Type 0 where
   pub whole : Whole before.tables
   pub zero : Zero piece_at rows_at before.tables
-  pub offsets : length before.offsets ≡ room_for_pieces
-  pub lengths : length before.lengths ≡ room_for_pieces
+  pub words : length before.words ≡ room_for_pieces
 
 -- The regions of pieces and phrases say what the layout of the book's tables says, but for the links, which are as they were.
 -- Every byte outside of these regions is as it was.
@@ -33,16 +33,18 @@ pub record Entered (book : Book) (before after : List ℕ) : Type 0 where
   pub elsewhere : (k : ℕ) → (k < piece_at) ⊎ (rows_at ≤ k) → get_or after k 0 ≡ get_or before k 0
   pub long : length after ≡ length before
 
--- A keyword is the bytes of the book from an offset on, as many as its length says, which is 32 at most.
-pub record Located (bytes keyword : List ℕ) (offset count : ℕ) : Type 0 where
-  pub there : bytes_after offset count bytes ≡ keyword
-  pub inside : offset + count ≤ length bytes
-  pub long : count ≡ length keyword
-  pub short : count ≤ longest_keyword
+-- A keyword is a stretch of the book: the bytes from an offset on, as many as its length says, which is 32 at most.
+pub record Located (bytes keyword : List ℕ) (word : Stretch) : Type 0 where
+  pub there : bytes_of bytes word ≡ keyword
+  pub inside : word.offset + word.count ≤ length bytes
+  pub long : word.count ≡ length keyword
+  pub short : word.count ≤ longest_keyword
 
--- The survey's answer has the numbers of phrases and pieces; the tables hold them, and each keyword is noted where it stands.
+-- The survey's answer has the numbers of phrases and pieces; the tables hold them, and each keyword is noted where it stands, in
+-- the room that was lent.
 pub record SurveyMeant (book : Book) (bytes : List ℕ) (before : Notes) (answer : Surveyed) (after : Notes) : Type 0 where
   pub phrases : answer.phrases ≡ length book.phrases
   pub pieces : answer.pieces ≡ spot_count book
   pub entered : Entered book before.tables after.tables
-  pub keywords : (p : ℕ) → p < spot_count book → Located bytes (keyword_of book p) (get_or after.offsets p 0) (get_or after.lengths p 0)
+  pub room : length after.words ≡ room_for_pieces
+  pub keywords : (p : ℕ) → p < spot_count book → Located bytes (keyword_of book p) (get_or after.words p nowhere)

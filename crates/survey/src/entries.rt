@@ -9,9 +9,6 @@ use tables::layout::{
     ENDS, IS_FIRST, IS_LAST, PHRASE, PHRASE_LENGTH, PIECE, PIECE_LENGTH, RANK, RIGHTS, SPAN,
 };
 
-// How many numbers two bytes can hold.
-const PAIR: usize = 65536;
-
 // The entry of a piece, but for its link.
 #[derive(Clone, Copy)]
 pub struct Entry {
@@ -23,39 +20,32 @@ pub struct Entry {
 
 // How much later than the piece before it a piece can end at the earliest: by the least of its gap and its keyword. It is kept
 // in two bytes whatever a book says; of a sound book nothing is cut off.
-pub fn delay_of(least: u16, count: usize) -> u16
-    requires { count < 256 }
+pub fn delay_of(least: u16, count: u8) -> u16
     ensures { result ≡ (least + count) % 65536 }
 {
-    ((lent::pair_size(least) + count) % PAIR) as u16
+    least.wrapping_add(u16::from(count))
 }
 
 // How much later than it opens the window of a bounded gap closes.
 pub fn span_of(least: u16, most: u16) -> u16
     ensures { result ≡ most - least }
 {
-    if most < least {
-        return 0;
-    }
-    most - least
+    most.saturating_sub(least)
 }
 
 // Which end of its phrase a piece stands at.
 pub fn ends_of(last: bool, first: bool) -> u8
     ensures { result ≡ ends_for last first }
 {
-    if last {
-        if first {
-            return IS_LAST + IS_FIRST;
-        }
-        return IS_LAST;
+    match (last, first) {
+        (true, true) => IS_LAST + IS_FIRST,
+        (true, false) => IS_LAST,
+        (false, true) => IS_FIRST,
+        (false, false) => 0,
     }
-    if first {
-        return IS_FIRST;
-    }
-    0
 }
 
+// Kept, no plainer: with `struct Filled<'a> { bytes: &'a mut [u8] }` each method would need one clause more: that the borrow keeps its ghost name.
 // Writes the entry of the phrase of this rank.
 pub fn put_phrase(t: &mut [u8], rank: Rank, number: Number, rights: u8)
     requires { (Whole t.old) × (rank.0 < room_for_phrases) }

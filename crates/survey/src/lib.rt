@@ -8,15 +8,16 @@ ghost use Rattle.survey.specs.Turns.{noted};
 ghost use Rattle.survey.specs.Survey.{SurveyExact};
 
 use progress::Progress;
-use tables::layout::ROOM_FOR_PIECES;
 use turns::turn;
 
 mod entries;
 mod mark;
 mod progress;
+mod stretch;
 mod turns;
 
 pub use mark::mark_of;
+pub use stretch::{KEYWORDS, Stretch};
 
 // How many phrases and pieces were entered.
 #[derive(Clone, Copy)]
@@ -25,21 +26,17 @@ pub struct Surveyed {
     pub pieces: usize,
 }
 
-// Reads the book record by record. Afterwards keyword p is the `lengths[p]` bytes of the book from `offsets[p]` on. The links of
-// the pieces are left as they are.
-pub fn survey(
-    book: &[u8],
-    t: &mut [u8],
-    offsets: &mut [u16; ROOM_FOR_PIECES],
-    lengths: &mut [u8; ROOM_FOR_PIECES],
-) -> Surveyed
+// Kept, no plainer: with `struct Filled<'a> { bytes: &'a mut [u8] }` each method would need one clause more: that the borrow keeps its ghost name.
+// Reads the book record by record. Afterwards the keyword of piece p is the stretch `words[p]` of the book. The links of the pieces
+// are left as they are.
+pub fn survey(book: &[u8], t: &mut [u8], words: &mut [Stretch; KEYWORDS]) -> Surveyed
     requires whole { Whole t.old }
     requires book_len_bound { length book.now < 65536 }
-    ensures { SurveyExact book.now (noted t.old offsets.old lengths.old) result (noted t.new offsets.new lengths.new) }
+    ensures { SurveyExact book.now (noted t.old words.old) result (noted t.new words.new) }
 {
     let mut progress = Progress::start();
     while progress.at < book.len() {
-        progress = turn(book, t, offsets, lengths, progress);
+        progress = turn(book, t, words, progress);
     }
     Surveyed {
         phrases: progress.phrases,

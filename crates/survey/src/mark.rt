@@ -13,7 +13,7 @@ fn marked(m: u64, byte: u8) -> u64
     requires { m < 4294967296 }
     ensures { (result ≡ (257 * m + byte + 1) % 4294967296) × (result < 4294967296) }
 {
-    (FACTOR * m + lent::wide64(byte) + 1) % FOUR
+    (FACTOR * m + u64::from(byte) + 1) % FOUR
 }
 
 // The mark of all the bytes, from 0 on.
@@ -21,8 +21,8 @@ pub fn mark_of(book: &[u8]) -> u64
     ensures { result ≡ mark_from 0 book.now }
 {
     let mut m = 0;
-    for i in 0..book.len() {
-        m = marked(m, book[i]);
+    for byte in book {
+        m = marked(m, *byte);
     }
     m
 }

@@ -1,41 +1,31 @@
 // What one record of the book leaves in the table memory and among the keywords.
-ghost use Rattle.std.specs.Prelude.{◌≡◌, List, ℕ, ◌<◌, length};
+ghost use Rattle.std.specs.Prelude.{◌≡◌, List, ◌<◌, length};
 ghost use Rattle.tables.specs.Reads.{Whole};
+ghost use Rattle.survey.specs.declared.stretch.Stretch.{Stretch};
 ghost use Rattle.survey.specs.Turns.{noted, reading, gap_at, phrase_turn, keyword_turn, turn_at};
 
 use crate::entries::{Entry, delay_of, ends_of, put_phrase, put_piece, span_of};
 use crate::progress::Progress;
+use crate::stretch::{KEYWORDS, Stretch};
 use counters::{Number, Rank};
-use records::{Cursor, Found, past, read};
-use tables::layout::{NEVER_CLOSES, ROOM_FOR_PHRASES, ROOM_FOR_PIECES};
-
-// A keyword that was found: so many bytes from a start on, and the offset behind it.
-#[derive(Clone, Copy)]
-pub struct Word {
-    pub start: usize,
-    pub count: usize,
-    pub next: usize,
-}
+use records::{Cursor, Record, read};
+use tables::layout::{NEVER_CLOSES, ROOM_FOR_PHRASES};
 
 // Does a gap begin at an offset? Then a further piece of the phrase follows.
 fn gap_at(book: &[u8], at: usize) -> bool
     ensures { result ≡ gap_at book.now at }
 {
-    match read(book, Cursor { at }) {
-        Found::Bounded {
-            least: _,
-            most: _,
-            next: _,
-        } => true,
-        Found::Open { least: _, next: _ } => true,
-        _ => false,
-    }
+    let Ok(found) = read(book, Cursor { at }) else {
+        return false;
+    };
+    matches!(found.says, Record::Bounded { .. } | Record::Open { .. })
 }
 
+// Kept, no plainer: with `struct Filled<'a> { bytes: &'a mut [u8] }` each method would need one clause more: that the borrow keeps its ghost name.
 // Enters a phrase, whose rank is the number of those before it. One that there is no room for is passed over.
 fn phrase(t: &mut [u8], progress: Progress, number: Number, rights: u8, next: usize) -> Progress
     requires { Whole t.old }
-    ensures { (offsets lengths : List ℕ) → reading result (noted t.new offsets lengths) ≡ phrase_turn number rights next (reading progress (noted t.old offsets lengths)) }
+    ensures { (words : List Stretch) → reading result (noted t.new words) ≡ phrase_turn number rights next (reading progress (noted t.old words)) }
 {
     let j = progress.phrases;
     if ROOM_FOR_PHRASES <= j {
@@ -50,69 +40,54 @@ fn phrase(t: &mut [u8], progress: Progress, number: Number, rights: u8, next: us
 fn keyword(
     book: &[u8],
     t: &mut [u8],
-    offsets: &mut [u16; ROOM_FOR_PIECES],
-    lengths: &mut [u8; ROOM_FOR_PIECES],
+    words: &mut [Stretch; KEYWORDS],
     progress: Progress,
-    word: Word,
+    word: Stretch,
+    next: usize,
 ) -> Progress
-    requires whole { Whole t.old }
-    requires start_bound { (word.start < 65536) × (word.count < 256) }
-    ensures { reading result (noted t.new offsets.new lengths.new) ≡ keyword_turn book.now word (reading progress (noted t.old offsets.old lengths.old)) }
+    requires { Whole t.old }
+    ensures { reading result (noted t.new words.new) ≡ keyword_turn book.now word next (reading progress (noted t.old words.old)) }
 {
     let p = progress.pieces;
-    if ROOM_FOR_PIECES <= p {
-        return progress.moved(word.next);
+    if KEYWORDS <= p {
+        return progress.moved(next);
     }
-    offsets[p] = word.start as u16;
-    lengths[p] = word.count as u8;
-    let rank = progress.rank;
+    words[p] = word;
     let entry = Entry {
         delay: delay_of(progress.least, word.count),
         span: progress.span,
-        rank,
-        ends: ends_of(!gap_at(book, word.next), progress.first),
+        rank: progress.rank,
+        ends: ends_of(!gap_at(book, next), progress.first),
     };
     put_piece(t, p, entry);
-    progress.worded(word.next)
+    progress.worded(next)
 }
 
 // Reads the record at which the progress stands and enters what it says. Where there is none, the survey ends.
 pub fn turn(
     book: &[u8],
     t: &mut [u8],
-    offsets: &mut [u16; ROOM_FOR_PIECES],
-    lengths: &mut [u8; ROOM_FOR_PIECES],
+    words: &mut [Stretch; KEYWORDS],
     progress: Progress,
 ) -> Progress
     requires whole { Whole t.old }
     requires book_len_bound { length book.now < 65536 }
-    ensures { reading result (noted t.new offsets.new lengths.new) ≡ turn_at book.now (reading progress (noted t.old offsets.old lengths.old)) }
+    ensures { reading result (noted t.new words.new) ≡ turn_at book.now (reading progress (noted t.old words.old)) }
 {
-    let found = read(book, Cursor { at: progress.at });
-    let next = past(found, book.len());
-    match found {
-        Found::Phrase {
-            number,
-            rights,
-            next: _,
-        } => phrase(t, progress, number, rights, next),
-        Found::Bounded {
-            least,
-            most,
-            next: _,
-        } => progress.gapped(least, span_of(least, most), next),
-        Found::Open { least, next: _ } => progress.gapped(least, NEVER_CLOSES, next),
-        Found::Keyword {
-            start,
-            length,
-            next: _,
-        } => {
-            let word = Word {
-                start,
-                count: length,
-                next,
+    let Ok(found) = read(book, Cursor { at: progress.at }) else {
+        return progress.moved(book.len());
+    };
+    let next = found.next.at;
+    match found.says {
+        Record::Phrase { number, rights } => phrase(t, progress, number, rights, next),
+        Record::Bounded { least, most } => progress.gapped(least, span_of(least, most), next),
+        Record::Open { least } => progress.gapped(least, NEVER_CLOSES, next),
+        Record::Keyword { start, length } => {
+            let word = Stretch {
+                offset: start as u16,
+                count: length as u8,
             };
-            keyword(book, t, offsets, lengths, progress, word)
+            keyword(book, t, words, progress, word, next)
         }
         _ => progress.moved(next),
     }

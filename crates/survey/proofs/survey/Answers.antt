@@ -10,7 +10,7 @@ use Rattle.survey.proofs.survey.Goals as goal
 pub loop-progress-init : goal.loop-progress-init
 loop-progress-init c =
     let a = c.args in
-    let before = noted a.t.now a.offsets.now a.lengths.now in
+    let before = noted a.t.now a.words.now in
     going_start a.book.now before (reading c.start-progress.result before) (ap (λ (p : Progress). reading p before) c.start-progress.ensures)
 
 pub turn-progress-requires : goal.turn-progress-requires
@@ -20,7 +20,7 @@ pub loop-progress-smaller : goal.loop-progress-smaller
 loop-progress-smaller c =
     let a = c.args in
     let l = c.loop-progress in
-    let more = going_more a.book.now (noted a.t.now a.offsets.now a.lengths.now) (reading l.progress (noted l.t l.offsets l.lengths)) l.invariant (omega arith) _
+    let more = going_more a.book.now (noted a.t.now a.words.now) (reading l.progress (noted l.t l.words)) l.invariant (omega arith) _
     c.turn-progress.ensures in
     omega (arith, more.0)
 
@@ -28,7 +28,7 @@ pub loop-progress-preserved : goal.loop-progress-preserved
 loop-progress-preserved c =
     let a = c.args in
     let l = c.loop-progress in
-    let more = going_more a.book.now (noted a.t.now a.offsets.now a.lengths.now) (reading l.progress (noted l.t l.offsets l.lengths)) l.invariant (omega arith) _
+    let more = going_more a.book.now (noted a.t.now a.words.now) (reading l.progress (noted l.t l.words)) l.invariant (omega arith) _
     c.turn-progress.ensures in
     more.1
 
@@ -38,5 +38,5 @@ shape_of-t c = c.loop-progress.invariant.long
 pub returns : goal.returns
 returns c =
     let a = c.args in
-    let done = going_done a.book.now (noted a.t.now a.offsets.now a.lengths.now) (reading c.loop-progress.progress (noted c.loop-progress.t c.loop-progress.offsets c.loop-progress.lengths)) c.loop-progress.invariant (omega arith) in
+    let done = going_done a.book.now (noted a.t.now a.words.now) (reading c.loop-progress.progress (noted c.loop-progress.t c.loop-progress.words)) c.loop-progress.invariant (omega arith) in
     record { counts = ap counts_of done; notes = ap (λ (r : Reading). r.notes) done }

@@ -5,7 +5,7 @@ use Rattle.survey.proofs.Loop.{Going}
 use Rattle.survey.proofs.survey.Given as goal
 
 abbrev pub invariant-loop-progress : goal.invariant-loop-progress
-invariant-loop-progress l = Going l.book (noted l.initial.t l.initial.offsets l.initial.lengths) (reading l.progress (noted l.t l.offsets l.lengths))
+invariant-loop-progress l = Going l.book (noted l.initial.t l.initial.words) (reading l.progress (noted l.t l.words))
 
 abbrev pub decreases-loop-progress : goal.decreases-loop-progress
 decreases-loop-progress l = length l.book - l.progress.at

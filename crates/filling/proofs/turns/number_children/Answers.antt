@@ -9,26 +9,26 @@ use Rattle.filling.proofs.turns.number_children.Goals as goal
 pub loop-byte-init : goal.loop-byte-init
 loop-byte-init c =
     let a = c.args in
-    (omega arith, children_start a.count a.onward.now (progress a.t.now a.begins.now a.counts.now a.states), refl)
+    (children_start a.count a.onward.now (progress a.t.now a.numbering.now.starts a.numbering.now.states), refl)
 
-pub number_child-numbered-requires : goal.number_child-numbered-requires
-number_child-numbered-requires c =
+pub number_child-requires : goal.number_child-requires
+number_child-requires c =
     let a = c.args in
     let l = c.loop-byte in
-    let room = children_room a.count a.onward.now (progress a.t.now a.begins.now a.counts.now a.states) l.byte 256 2048 (omega arith) c.requires.states_bound
-    (progress l.t l.begins l.counts l.numbered) l.invariant.1 in
+    let room = children_room a.count a.onward.now (progress a.t.now a.numbering.now.starts a.numbering.now.states) l.byte 256 2048 (omega arith) c.requires.states_bound
+    (progress l.t l.numbering.starts l.numbering.states) l.invariant.0 in
     record { whole = omega arith; byte_lt_byte_values = omega arith; states_lt_room_for_states = room }
 
 pub loop-byte-preserved : goal.loop-byte-preserved
 loop-byte-preserved c =
     let a = c.args in
     let l = c.loop-byte in
-    let further = children_further a.count a.onward.now (progress a.t.now a.begins.now a.counts.now a.states) l.byte (progress l.t l.begins l.counts l.numbered) _
-    l.invariant.1 c.number_child-numbered.ensures in
-    (omega arith, further, omega arith)
+    let further = children_further a.count a.onward.now (progress a.t.now a.numbering.now.starts a.numbering.now.states) l.byte (progress l.t l.numbering.starts l.numbering.states) _
+    l.invariant.0 c.number_child.ensures in
+    (further, omega arith)
 
 pub returns : goal.returns
 returns c =
     let a = c.args in
     let all : c.loop-byte.byte ≡ 256 = omega arith in
-    rw all at c.loop-byte.invariant.1
+    rw all at c.loop-byte.invariant.0

@@ -2,22 +2,25 @@
 -- Assumes nothing.
 use mathlib.Core.Path.{ap}
 use native.Mathlib.Omega.{arith}
-use Rattle.filling.specs.Onward.{stretch}
-use Rattle.filling.specs.Turns.{progress, with_first}
+use Rattle.filling.specs.Turns.{progress, with_first, state_stretch, stretch_of}
 use Rattle.filling.proofs.Turning.{turn_taken, turn_room}
 use Rattle.filling.proofs.turns.take_turn.Goals as goal
 
 pub onward_from-onward-requires : goal.onward_from-onward-requires
+unfolding state_stretch stretch_of
 onward_from-onward-requires c =
-    record { inside = c.requires.inside; count_in_bounds = omega (arith, c.requires.turn_in_bounds, c.pair_size.ensures, c.wide_size.ensures) }
+    rw c.stretch-state.ensures c.requires.state_inside
+
+pub overflow_add-state : goal.overflow_add-state
+unfolding state_stretch stretch_of
+overflow_add-state c = rw c.stretch-state.ensures (omega (arith, c.requires.state_bound))
 
 pub number_children-requires : goal.number_children-requires
 unfolding with_first
 number_children-requires c =
     let a = c.args in
-    let room = turn_room a.book.now a.offsets.now a.lengths.now a.keywords a.turn (progress a.t.now a.begins.now a.counts.now a.states) _ _
-    (stretch c.pair_size.result c.wide_size.result)
-    (ap (λ w. progress w a.begins.now a.counts.now a.states) c.put2.ensures) c.pair_size.ensures.0 c.wide_size.ensures.0 c.onward_from-onward.ensures
+    let room = turn_room a.keywords.book.now a.keywords.words.now a.turn (progress a.t.now a.numbering.now.starts a.numbering.now.states) _ _ c.stretch-state.result
+    (ap (λ w. progress w a.numbering.now.starts a.numbering.now.states) c.put2.ensures) c.stretch-state.ensures c.onward_from-onward.ensures
     2048 c.requires.states_bound in
     record { whole = omega arith; states_bound = room }
 
@@ -25,7 +28,6 @@ pub returns : goal.returns
 unfolding with_first
 returns c =
     let a = c.args in
-    turn_taken a.book.now a.offsets.now a.lengths.now a.keywords a.turn (progress a.t.now a.begins.now a.counts.now a.states) _ _
-    (stretch c.pair_size.result c.wide_size.result)
-    (ap (λ w. progress w a.begins.now a.counts.now a.states) c.put2.ensures) c.pair_size.ensures.0 c.wide_size.ensures.0 c.onward_from-onward.ensures
+    turn_taken a.keywords.book.now a.keywords.words.now a.turn (progress a.t.now a.numbering.now.starts a.numbering.now.states) _ _ c.stretch-state.result
+    (ap (λ w. progress w a.numbering.now.starts a.numbering.now.states) c.put2.ensures) c.stretch-state.ensures c.onward_from-onward.ensures
     c.number_children.ensures

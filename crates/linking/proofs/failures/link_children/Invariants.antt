@@ -1,12 +1,11 @@
 use mathlib.Core.Path.{◌≡◌}
 use Prim.Native.Nat.{◌-◌, ◌≤◌}
-use lib.ListN.{length}
 use Rattle.linking.specs.Failures.{with_failures}
 use Rattle.linking.proofs.failures.link_children.Given as goal
 
 abbrev pub invariant-loop-child : goal.invariant-loop-child
 invariant-loop-child l =
-    (l.initial.child ≤ l.child) × (l.child - l.initial.child ≤ l.end - l.initial.child) × (l.t ≡ with_failures l.initial.t l.states l.parent.0 l.initial.child (l.child - l.initial.child)) × (length l.t ≡ length l.initial.t)
-
-abbrev pub decreases-loop-child : goal.decreases-loop-child
-decreases-loop-child l = l.end - l.child
+    let first = l.initial.child-iterator.start in
+    let end = l.initial.child-iterator.end in
+    let next = l.child-iterator.start in
+    (l.child-iterator.end ≡ end) × (first ≤ next) × (next - first ≤ end - first) × (l.t ≡ with_failures l.initial.t l.states l.parent.0 first (next - first))

@@ -18,18 +18,17 @@ module _ (bytes : List ℕ) (i m : ℕ) where
   unfolding mark_from
   mark-done past = rw (drop_of_length-le bytes past)
 
-pub loop-i-init : goal.loop-i-init
-loop-i-init c = (omega arith, omega arith, refl)
+pub loop-byte-init : goal.loop-byte-init
+loop-byte-init c = (omega arith, refl)
 
-pub loop-i-preserved : goal.loop-i-preserved
-loop-i-preserved c =
+pub loop-byte-preserved : goal.loop-byte-preserved
+loop-byte-preserved c =
     let a = c.args in (
-      omega arith,
       c.marked-m.ensures.1,
-      mark-more a.book.now c.loop-i.i c.loop-i.m (omega arith) c.marked-m.ensures.0 ∙ c.loop-i.invariant.2,
+      mark-more a.book.now c.loop-byte.byte-index c.loop-byte.m (omega arith) c.marked-m.ensures.0 ∙ c.loop-byte.invariant.1,
     )
 
 pub returns : goal.returns
 returns c =
     let a = c.args in
-    mark-done a.book.now c.loop-i.i c.loop-i.m (omega arith) ∙ c.loop-i.invariant.2
+    mark-done a.book.now c.loop-byte.byte-index c.loop-byte.m (omega arith) ∙ c.loop-byte.invariant.1

@@ -10,10 +10,10 @@ pub returns-then-j-ge-ROOM_FOR_PHRASES : goal.returns-then-j-ge-ROOM_FOR_PHRASES
 unfolding phrase_turn
 returns-then-j-ge-ROOM_FOR_PHRASES c =
     let a = c.args in
-    λ offsets lengths. rw (le-ltb a.progress.phrases room_for_phrases c.if-j-ge-ROOM_FOR_PHRASES.true, c.moved.ensures)
+    λ words. rw (le-ltb a.progress.phrases room_for_phrases c.if-j-ge-ROOM_FOR_PHRASES.true, c.moved.ensures)
 
 pub returns : goal.returns
 returns c =
     let a = c.args in
-    λ offsets lengths. phrase_stored a.t.now offsets lengths a.progress a.number a.rights a.next c.if-j-ge-ROOM_FOR_PHRASES.false c.put_phrase.ensures c.named.ensures
+    λ words. phrase_stored a.t.now words a.progress a.number a.rights a.next c.if-j-ge-ROOM_FOR_PHRASES.false c.put_phrase.ensures c.named.ensures
     (same_rank c.of-rank.ensures)
