@@ -104,56 +104,52 @@ reported_none t place reports = rw (those_none (is_marked no_marks) none_marked 
 
 -- ── Reading them off ──
 
--- Where the reading stands: at the rank of a mark or past the last one; what is still to be written makes up the reports of the place.
-pub record Reading (t : List ℕ) (place : ℕ) (marks : Marks) (reports : Reports) (n : ℕ) (room : List ℕ) (count rank : ℕ) : Type 0 where
-  pub within : rank ≤ 128
-  pub marked : rank < 128 → is_marked marks rank ≡ true
-  pub few : count + (n - rank) ≤ reports.written + n
+-- Where the reading stands: at the rank from which the marks are still to be read; what is to be written for them makes up the reports of the place.
+pub record Reading (t : List ℕ) (place : ℕ) (marks : Marks) (reports : Reports) (n : ℕ) (room : List ℕ) (count from : ℕ) : Type 0 where
+  pub within : from ≤ 128
+  pub few : count + (n - from) ≤ reports.written + n
   pub long : length room ≡ length reports.room
-  pub rest : with_reports t place (those (is_marked marks) rank (n - rank)) (record { written = count; room = room }) ≡ reported t place marks reports
+  pub rest : with_reports t place (those (is_marked marks) from (n - from)) (record { written = count; room = room }) ≡ reported t place marks reports
 
-module _ (t : List ℕ) (place : ℕ) (marks : Marks) (reports : Reports) (n : ℕ) where
-  pub reading_start : n ≡ phrase_count_in t → (rank : ℕ) → First (is_marked marks) 128 0 rank
-      → Reading t place marks reports n reports.room reports.written rank
+module _ {t : List ℕ} {place : ℕ} {marks : Marks} {reports : Reports} {n : ℕ} where
+  pub reading_start : n ≡ phrase_count_in t → Reading t place marks reports n reports.room reports.written 0
   unfolding reported marked_ranks
-  reading_start e rank f =
-      let z : phrase_count_in t ≡ n - 0 = omega arith in
+  reading_start e =
+      let z : n - 0 ≡ phrase_count_in t = omega arith in
       record {
-        within = f.within;
-        marked = f.found;
+        within = omega arith;
         few = omega arith;
         long = refl;
-        rest = ap (λ (l : List ℕ). with_reports t place l reports) (sym (ap (those (is_marked marks) 0) z ∙ those_first (is_marked marks) n 128 0 rank f));
+        rest = ap (λ (k : ℕ). with_reports t place (those (is_marked marks) 0 k) reports) z;
       }
 
-  module _ (room : List ℕ) (count rank : ℕ) (reading : Reading t place marks reports n room count rank) where
-    pub reading_next : n ≤ 128 → rank < n → (room' : List ℕ) → room' ≡ with_bytes room (2 * count) (entries t place (rank ∷ []))
-        → (next : ℕ) → First (is_marked marks) 128 (rank + 1) next → Reading t place marks reports n room' (count + 1) next
-    reading_next small inside room' e next f = record {
-      within = f.within;
-      marked = f.found;
+  module _ {room : List ℕ} {count from : ℕ} (reading : Reading t place marks reports n room count from) where
+    pub reading_next : n ≤ 128 → (rank : ℕ) → First (is_marked marks) 128 from rank → rank < n
+        → (room' : List ℕ) → room' ≡ with_bytes room (2 * count) (entries t place (rank ∷ []))
+        → Reading t place marks reports n room' (count + 1) (rank + 1)
+    reading_next small rank f inside room' e = record {
+      within = omega (arith, small);
       few = omega (arith, reading.few, f.reached);
       long = ap length e ∙ length_with_bytes room (2 * count) (entries t place (rank ∷ [])) ∙ reading.long;
       rest = sym turned ∙ reading.rest;
     }
       where
         left : List ℕ
-        left = those (is_marked marks) next (n - next)
+        left = those (is_marked marks) (rank + 1) (n - (rank + 1))
 
-        ranks : those (is_marked marks) rank (n - rank) ≡ rank ∷ left
-        ranks =
-            those_hit (is_marked marks) n rank inside (reading.marked (omega arith))
-            ∙ ap {B = List ℕ} (λ (l : List ℕ). rank ∷ l) (those_first (is_marked marks) n 128 (rank + 1) next f)
+        ranks : those (is_marked marks) from (n - from) ≡ rank ∷ left
+        ranks = those_first (is_marked marks) n 128 from rank f ∙ those_hit (is_marked marks) n rank inside (f.found (omega arith))
 
-        turned : with_reports t place (those (is_marked marks) rank (n - rank)) (record { written = count; room = room })
+        turned : with_reports t place (those (is_marked marks) from (n - from)) (record { written = count; room = room })
             ≡ with_reports t place left (record { written = count + 1; room = room' })
         turned =
             ap (λ (l : List ℕ). with_reports t place l (record { written = count; room = room })) ranks
             ∙ reports_more t place rank left count room
             ∙ ap (λ (l : List ℕ). with_reports t place left (record { written = count + 1; room = l })) (sym e)
 
-    pub reading_end : n ≤ rank → record { written = count; room = room } ≡ reported t place marks reports
-    reading_end past =
-        sym (ap (λ (l : List ℕ). with_reports t place l (record { written = count; room = room })) (those_end (is_marked marks) n rank past)
+    pub reading_end : (rank : ℕ) → First (is_marked marks) 128 from rank → n ≤ rank → record { written = count; room = room } ≡ reported t place marks reports
+    reading_end rank f past =
+        sym (ap (λ (l : List ℕ). with_reports t place l (record { written = count; room = room }))
+        (those_first (is_marked marks) n 128 from rank f ∙ those_end (is_marked marks) n rank past)
         ∙ reports_none t place (record { written = count; room = room }))
         ∙ reading.rest

@@ -4,6 +4,7 @@ use mathlib.Core.Path.{◌≡◌, refl, sym, ap, ◌∙◌}
 use mathlib.Core.Bool.{Bool, true, false, cond}
 use mathlib.Core.List.{List, [], ◌∷◌}
 use Prim.Native.Nat.{ℕ, zero, suc, ◌+◌, ◌-◌, ◌%◌, ◌≤◌, ◌<◌}
+use native.Mathlib.Numerals.{add-one}
 use native.Mathlib.Omega.{arith}
 use lib.Dec.{ltb}
 use lib.ListN.{length}
@@ -62,12 +63,9 @@ unfolding chain
 chain_none onward zero link e = refl
 chain_none onward (suc most) link e = rw e
 
-pub chain_more : (onward : ℕ → ℕ) (most link : ℕ) → (link ≡ 0 → ⊥) → chain onward (suc most) link ≡ (link - 1) ∷ chain onward most (onward (link - 1))
+pub chain_more : (onward : ℕ → ℕ) (most link p : ℕ) → link ≡ p + 1 → chain onward (suc most) link ≡ p ∷ chain onward most (onward p)
 unfolding chain
-chain_more onward most zero some = absurd (some refl)
-chain_more onward most (suc p) some =
-    let e : suc p - 1 ≡ p = omega arith in
-    rw e
+chain_more onward most link p some = rw (some, add-one)
 
 -- Where the walk along the links stands: it has looked at some pieces, and those from a link on make up what comes of all.
 pub record Walk (t : List ℕ) (place : ℕ) (m₀ : List ℕ) (goal : Ended) (m : List ℕ) (marks : Marks) (link looked : ℕ) : Type 0 where
@@ -89,7 +87,7 @@ module _ (t : List ℕ) (place : ℕ) (m₀ : List ℕ) where
   unfolding pieces_in
   walk_whole state marks link e f = rw (e, f)
 
-  module _ (goal : Ended) (m : List ℕ) (marks : Marks) (link looked : ℕ) (walk : Walk t place m₀ goal m marks link looked) where
+  module _ {goal : Ended} {m : List ℕ} {marks : Marks} {link looked : ℕ} (walk : Walk t place m₀ goal m marks link looked) where
     -- What has come so far, and what the pieces of a chain then come to.
     abbrev so_far : Ended
     so_far = record { marks = marks; memory = m }
@@ -97,26 +95,26 @@ module _ (t : List ℕ) (place : ℕ) (m₀ : List ℕ) where
     abbrev from : List ℕ → Ended
     from pieces = pieces_ended t place so_far pieces
 
-    pub walk_next : looked < most_looked → (link ≡ 0 → ⊥)
-        → (m' : List ℕ) (marks' : Marks) → record { marks = marks'; memory = m' } ≡ piece_ended t place so_far (link - 1)
-        → (link' : ℕ) → link' ≡ onward_in t (link - 1) → link' ≤ room_for_pieces → Walk t place m₀ goal m' marks' link' (looked + 1)
+    pub walk_next : looked < most_looked → (p : ℕ) → link ≡ p + 1
+        → (m' : List ℕ) (marks' : Marks) → record { marks = marks'; memory = m' } ≡ piece_ended t place so_far p
+        → (link' : ℕ) → link' ≡ onward_in t p → link' ≤ room_for_pieces → Walk t place m₀ goal m' marks' link' (looked + 1)
     unfolding pieces_ended
-    walk_next more some m' marks' ended link' e low = record {
+    walk_next more p some m' marks' ended link' e low = record {
       within = omega arith;
       low = low;
-      long = ap (λ (x : Ended). length x.memory) ended ∙ length_ended t place marks m (link - 1) ∙ walk.long;
+      long = ap (λ (x : Ended). length x.memory) ended ∙ length_ended t place marks m p ∙ walk.long;
       rest = ap (λ (x : Ended). pieces_ended t place x later) ended ∙ sym (ap from met) ∙ walk.rest;
     }
       where
         later : List ℕ
         later = chain (onward_in t) (most_looked - (looked + 1)) link'
 
-        met : chain (onward_in t) (most_looked - looked) link ≡ (link - 1) ∷ later
+        met : chain (onward_in t) (most_looked - looked) link ≡ p ∷ later
         met =
             let z : most_looked - looked ≡ suc (most_looked - (looked + 1)) = omega arith in
             ap (λ (n : ℕ). chain (onward_in t) n link) z
-            ∙ chain_more (onward_in t) (most_looked - (looked + 1)) link some
-            ∙ ap (λ (l : ℕ). (link - 1) ∷ chain (onward_in t) (most_looked - (looked + 1)) l) (sym e)
+            ∙ chain_more (onward_in t) (most_looked - (looked + 1)) link p some
+            ∙ ap (λ (l : ℕ). p ∷ chain (onward_in t) (most_looked - (looked + 1)) l) (sym e)
 
     pub walk_stop : link ≡ 0 → so_far ≡ goal
     unfolding pieces_ended

@@ -124,47 +124,39 @@ module _ (t : List ℕ) (place : ℕ) (test : ℕ → Bool) (m : List ℕ) where
 
 -- ── Opening a slot ──
 
--- Where the opening of slot q stands: at a piece that waits there or past the last one; the windows of those before it have opened.
+-- Where the opening of slot q stands: the windows of the pieces below p that wait there have opened.
 pub record Opening (t : List ℕ) (place q : ℕ) (m₀ m : List ℕ) (p : ℕ) : Type 0 where
   pub within : p ≤ room_for_pieces
-  pub waiting : p < room_for_pieces → waits_in m₀ q p ≡ true
   pub long : length m ≡ length m₀
   pub is : m ≡ windows_opened t place (waits_in m₀ q) m₀ p
 
-module _ (t : List ℕ) (place q : ℕ) (m₀ : List ℕ) where
-  pub opening_start : (p : ℕ) → First (waits_in m₀ q) room_for_pieces 0 p → Opening t place q m₀ m₀ p
+module _ {t : List ℕ} {place q : ℕ} {m₀ : List ℕ} where
+  pub opening_start : Opening t place q m₀ m₀ 0
   unfolding windows_opened
-  opening_start p first = record {
-    within = first.within;
-    waiting = first.found;
-    long = refl;
-    is = sym (opened_first t place (waits_in m₀ q) m₀ room_for_pieces 0 p first);
-  }
+  opening_start = record { within = omega arith; long = refl; is = refl }
 
-  module _ (m : List ℕ) (p : ℕ) (opening : Opening t place q m₀ m p) where
-    pub opening_next : p < room_for_pieces → (m' : List ℕ) → m' ≡ window_opened t place m p
-        → (next : ℕ) → First (waits_in m' q) room_for_pieces (p + 1) next → Opening t place q m₀ m' next
-    opening_next inside m' e next first = record {
-      within = first.within;
-      waiting = again.found;
-      long = ap length e ∙ length_opened t place m p ∙ opening.long;
-      is = stands ∙ sym (opened_first t place (waits_in m₀ q) m₀ room_for_pieces (p + 1) next again);
+  module _ {m : List ℕ} {p : ℕ} (opening : Opening t place q m₀ m p) where
+    -- What waits now is what waited at first, so the next piece is the same.
+    still : (next : ℕ) → First (waits_in m q) room_for_pieces p next → First (waits_in m₀ q) room_for_pieces p next
+    still next first = first_same (waits_in m q) (waits_in m₀ q)
+        (λ k. ap (λ (l : List ℕ). waits_in l q k) opening.is ∙ windows_wait t place (waits_in m₀ q) m₀ p opening.within q k)
+        room_for_pieces p next first
+
+    -- Up to the next piece nothing opens.
+    up_to_next : (next : ℕ) → First (waits_in m q) room_for_pieces p next → m ≡ windows_opened t place (waits_in m₀ q) m₀ next
+    up_to_next next first = opening.is ∙ sym (opened_first t place (waits_in m₀ q) m₀ room_for_pieces p next (still next first))
+
+    pub opening_next : (next : ℕ) → First (waits_in m q) room_for_pieces p next → next < room_for_pieces
+        → (m' : List ℕ) → m' ≡ window_opened t place m next → Opening t place q m₀ m' (next + 1)
+    opening_next next first inside m' e = record {
+      within = omega arith;
+      long = ap length e ∙ length_opened t place m next ∙ opening.long;
+      is = e ∙ ap (λ (l : List ℕ). window_opened t place l next) (up_to_next next first)
+          ∙ sym (opened_one t place (waits_in m₀ q) m₀ next ((still next first).found inside));
     }
-      where
-        stands : m' ≡ windows_opened t place (waits_in m₀ q) m₀ (p + 1)
-        stands =
-            e ∙ ap (λ (l : List ℕ). window_opened t place l p) opening.is
-            ∙ sym (opened_one t place (waits_in m₀ q) m₀ p (opening.waiting inside))
 
-        again : First (waits_in m₀ q) room_for_pieces (p + 1) next
-        again = first_same (waits_in m' q) (waits_in m₀ q)
-            (λ k. ap (λ (l : List ℕ). waits_in l q k) stands ∙ windows_wait t place (waits_in m₀ q) m₀ (p + 1) (omega arith) q k)
-            room_for_pieces (p + 1) next first
-
-    pub opening_end : room_for_pieces ≤ p → m ≡ windows_opened t place (waits_in m₀ q) m₀ room_for_pieces
-    opening_end past =
-        let e : p ≡ room_for_pieces = omega (arith, opening.within) in
-        opening.is ∙ ap (windows_opened t place (waits_in m₀ q) m₀) e
+    pub opening_end : First (waits_in m q) room_for_pieces p room_for_pieces → m ≡ windows_opened t place (waits_in m₀ q) m₀ room_for_pieces
+    opening_end none = up_to_next room_for_pieces none
 
 -- ── An empty slot ──
 

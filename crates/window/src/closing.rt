@@ -10,25 +10,11 @@ pub struct Window {
     pub closes: Place,
 }
 
-// A piece's window once one opens that closes at a place: its closing place is replaced by the later one.
-fn renewed(mut window: Window, newer: Place) -> Window
-    ensures { result ≡ renewed_to window newer }
-{
-    window.closes = newer;
-    window
-}
-
-// The same for a record that is lent.
-pub fn renew(window: &mut Window, newer: Place)
-    ensures { window.new ≡ renewed_to window.old newer }
-{
-    *window = renewed(*window, newer);
-}
-
-// The record by value, lent for the call and handed back: whoever calls this needs no walk by hand.
-pub fn renew_lent(mut held: Window, newer: Place) -> Window
-    ensures { result ≡ renewed_to held newer }
-{
-    renew(&mut held, newer);
-    held
+impl Window {
+    // A newer window opens: the closing place is replaced by the later one.
+    pub fn renew(&mut self, newer: Place)
+        ensures { self.new ≡ renewed_to self.old newer }
+    {
+        self.closes = newer;
+    }
 }

@@ -1,17 +1,17 @@
 // What opens at a place: the closing place of each piece that waits there is renewed, and nothing waits there any more.
 ghost use Rattle.std.specs.Prelude.{◌≡◌, ◌≤◌, ◌<◌, ltb};
 ghost use Rattle.counters.specs.Counters.{InLetter};
-ghost use Rattle.bits.specs.Bits.{First};
+ghost use Rattle.bits.specs.Bits.{Finds};
 ghost use Rattle.tables.specs.Layout.{room_for_pieces};
-ghost use Rattle.tables.specs.Reads.{Whole};
 ghost use Rattle.running.specs.Waiting.{slots};
 ghost use Rattle.running.specs.Reads.{WholeRunning, closing_place_in, waits_in};
 ghost use Rattle.window.specs.Opening.{closes_after, with_closing, window_opened, windows_opened, slot_emptied, slot_opened};
 
-use crate::closing::{Window, renew_lent};
+use crate::closing::Window;
 use counters::Place;
 use running::layout::{CLOSING, CLOSING_LENGTH, FLAG, NEVER, RING, SLOT_LENGTH};
-use tables::layout::{NEVER_CLOSES, ROOM_FOR_PIECES};
+use tables::Tables;
+use tables::layout::NEVER_CLOSES;
 
 // A slot is read by words of 8 bytes: how many pieces have their bits in a word, and how many words a slot has.
 const WORD: usize = 8;
@@ -28,7 +28,7 @@ fn closing_place(span: u16, opened: Place) -> Place
     if span == NEVER_CLOSES {
         return Place::at(NEVER);
     }
-    opened.later(lent::pair64(span))
+    opened.later(u64::from(span))
 }
 
 // The window of a piece, as the memory has it.
@@ -42,6 +42,7 @@ fn window_of(m: &[u8], piece: usize) -> Window
 }
 
 // Writes the window of a piece.
+// Kept, no plainer: a struct that holds m: &mut [u8] needs a clause on its ghost name in every method, where WholeRunning m.old stands now.
 fn put_window(m: &mut [u8], piece: usize, window: Window)
     requires { (WholeRunning m.old) × (piece < room_for_pieces) }
     ensures { m.new ≡ with_closing m.old piece window.closes.0 }
@@ -55,46 +56,45 @@ pub fn is_past(m: &[u8], piece: usize, place: Place) -> bool
     ensures { result ≡ ltb (closing_place_in m.now piece) place.0 }
 {
     let window = window_of(m, piece);
-    window.closes.is_before(place)
+    window.closes < place
 }
 
 // A window of a piece opens at a place.
-fn open_window(t: &[u8], m: &mut [u8], piece: usize, place: Place)
-    requires { (Whole t.now) × (WholeRunning m.old) × (piece < room_for_pieces) × (InLetter place.0) }
+fn open_window(t: &Tables, m: &mut [u8], piece: usize, place: Place)
+    requires { (WholeRunning m.old) × (piece < room_for_pieces) × (InLetter place.0) }
     ensures { m.new ≡ window_opened t.now place.0 m.old piece }
 {
-    let closes = closing_place(tables::span(t, piece), place);
-    let window = renew_lent(window_of(m, piece), closes);
+    let closes = closing_place(t.span(piece), place);
+    let mut window = window_of(m, piece);
+    window.renew(closes);
     put_window(m, piece, window);
 }
 
-// The first piece from p on that waits in a slot, 256 where none does: the slot is read by words.
-fn next_waiting(m: &[u8], slot: usize, p: usize) -> usize
+// The first piece from p on that waits in a slot, if one does: the slot is read by words.
+fn next_waiting(m: &[u8], slot: usize, p: usize) -> Option<usize>
     requires { (WholeRunning m.now) × (slot < slots) × (p ≤ room_for_pieces) }
-    ensures { First (waits_in m.now slot) room_for_pieces p result }
+    ensures { Finds (waits_in m.now slot) room_for_pieces p result }
 {
-    let mut word = p / PIECES_IN_WORD;
     let mut j = p % PIECES_IN_WORD;
-    while word < WORDS {
-        let next = bits::next64(lent::get8(m, RING + SLOT_LENGTH * slot + WORD * word), j);
-        if next < PIECES_IN_WORD {
-            return PIECES_IN_WORD * word + next;
+    for word in p / PIECES_IN_WORD..WORDS {
+        let bits = lent::get8(m, RING + SLOT_LENGTH * slot + WORD * word);
+        if let Some(next) = bits::next(bits as u128, j) {
+            return Some(PIECES_IN_WORD * word + next);
         }
-        word += 1;
         j = 0;
     }
-    ROOM_FOR_PIECES
+    None
 }
 
 // A window opens of each piece that waits in a slot, the lowest piece first.
-fn open_windows(t: &[u8], m: &mut [u8], slot: usize, place: Place)
-    requires { (Whole t.now) × (WholeRunning m.old) × (slot < slots) × (InLetter place.0) }
+fn open_windows(t: &Tables, m: &mut [u8], slot: usize, place: Place)
+    requires { (WholeRunning m.old) × (slot < slots) × (InLetter place.0) }
     ensures { m.new ≡ windows_opened t.now place.0 (waits_in m.old slot) m.old room_for_pieces }
 {
-    let mut piece = next_waiting(m, slot, 0);
-    while piece < ROOM_FOR_PIECES {
+    let mut from = 0;
+    while let Some(piece) = next_waiting(m, slot, from) {
         open_window(t, m, piece, place);
-        piece = next_waiting(m, slot, piece + 1);
+        from = piece + 1;
     }
 }
 
@@ -108,8 +108,8 @@ fn empty_slot(m: &mut [u8], slot: usize)
 }
 
 // The windows that wait in the slot of a place open, and the slot is empty. Most slots have no flag, and nothing is done.
-pub fn open_slot(t: &[u8], m: &mut [u8], place: Place)
-    requires { (Whole t.now) × (WholeRunning m.old) × (InLetter place.0) }
+pub fn open_slot(t: &Tables, m: &mut [u8], place: Place)
+    requires { (WholeRunning m.old) × (InLetter place.0) }
     ensures { m.new ≡ slot_opened t.now m.old place.0 }
 {
     let slot = running::slot_of(place);

@@ -11,5 +11,5 @@ pub returns : goal.returns
 unfolding entries with_bytes
 returns c =
     let a = c.args in
-    let number = c.pair32.ensures.0 ∙ c.value.ensures ∙ c.phrase_number.ensures in
+    let number = c.from.ensures ∙ c.value.ensures ∙ c.phrase_number.ensures in
     ap₂ (λ (n e : ℕ). with_bytes a.room.now (2 * a.written) (n ∷ e ∷ [])) number c.bytes.ensures

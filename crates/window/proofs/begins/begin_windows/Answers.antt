@@ -1,4 +1,4 @@
--- Each turn lets one more piece wait, if it is a first one. The measure is how many pieces are left.
+-- Each turn lets one more piece wait, if it is a first one.
 -- Assumes nothing.
 use native.Mathlib.Omega.{arith}
 use mathlib.Core.Path.{◌≡◌, refl}

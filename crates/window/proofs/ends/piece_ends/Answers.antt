@@ -15,7 +15,7 @@ returns-then-is_past c =
 pub returns-then-is_last : goal.returns-then-is_last
 returns-then-is_last c =
     let a = c.args in
-    ap (λ (marks : Marks). ended_with marks a.m.now) (c.with_mark.ensures ∙ ap (with_mark a.marks) c.rank.ensures)
+    ap (λ (marks : Marks). ended_with marks a.m.now) (c.with.ensures ∙ ap (with_mark a.marks) c.rank.ensures)
     ∙ sym (ended_last a.t.now a.place.0 a.marks a.m.now a.piece
     (sym c.is_past.ensures ∙ c.if-is_past.false)
     (sym c.is_last.ensures ∙ c.if-is_last.true))

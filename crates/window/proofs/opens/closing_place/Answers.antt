@@ -15,4 +15,4 @@ returns-then-span-eq-NEVER_CLOSES c =
 pub returns : goal.returns
 returns c =
     let a = c.args in
-    c.later.ensures ∙ ap (λ (n : ℕ). a.opened.0 + n) c.pair64.ensures.0 ∙ sym (closes_later a.span a.opened.0 c.if-span-eq-NEVER_CLOSES.false)
+    c.later.ensures ∙ ap (λ (n : ℕ). a.opened.0 + n) c.from.ensures ∙ sym (closes_later a.span a.opened.0 c.if-span-eq-NEVER_CLOSES.false)

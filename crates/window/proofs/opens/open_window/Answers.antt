@@ -5,10 +5,6 @@ use Rattle.window.proofs.opens.open_window.Goals as goal
 
 pub returns : goal.returns
 returns c =
-    let lent = c.renew_lent-window in
-    let read = c.window_of in
-    let closes = c.closing_place-closes in
-    let span = c.span in
     let a = c.args in
-    renewed_opens a.t.now a.place.0 a.m.now _ a.piece span.result closes.result read.result lent.result
-    read.ensures span.ensures closes.ensures lent.ensures c.put_window.ensures
+    renewed_opens a.t.now a.place.0 a.m.now _ a.piece _ _ _ _
+    c.window_of-window.ensures c.span.ensures c.closing_place-closes.ensures c.renew.ensures c.put_window.ensures
