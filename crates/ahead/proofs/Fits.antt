@@ -4,33 +4,18 @@ use mathlib.Core.Path.{◌≡◌}
 use mathlib.Core.Logic.{⊎_elim}
 use mathlib.Core.Bool.{true}
 use mathlib.Core.List.{List}
-use Prim.Native.Nat.{ℕ, zero, suc, ◌+◌, ◌≤◌, ◌<◌}
+use Prim.Native.Nat.{ℕ, zero, suc, max, ◌+◌, ◌≤◌, ◌<◌}
 use native.Mathlib.Numerals.{add-one}
 use native.Mathlib.Omega.{arith}
-use borrow.Author.Tests.{lt-ltb, le-ltb, leb-true}
-use Rattle.lent.proofs.Cases.{lt_or_le, eq_or_ne}
+use borrow.Author.Tests.{leb-true}
+use Rattle.lent.proofs.Cases.{eq_or_ne}
 use Rattle.tables.specs.Reads.{dense_in, column_in}
 use Rattle.seeking.specs.Quick.{last_column}
-use Rattle.ahead.specs.Columns.{larger, farthest, columns_fit}
-
-module _ (a b : ℕ) where
-  pub larger_second : a < b → larger a b ≡ b
-  unfolding larger
-  larger_second l = rw (lt-ltb a b l)
-
-  pub larger_first : b ≤ a → larger a b ≡ a
-  unfolding larger
-  larger_first l = rw (le-ltb a b l)
-
-  larger_both : (a ≤ larger a b) × (b ≤ larger a b)
-  larger_both = ⊎_elim
-      (λ (l : a < b). (omega (arith, larger_second l), omega (arith, larger_second l)))
-      (λ (l : b ≤ a). (omega (arith, larger_first l), omega (arith, larger_first l)))
-      (lt_or_le a b)
+use Rattle.ahead.specs.Columns.{farthest, columns_fit}
 
 module _ (t : List ℕ) where
   -- One byte more.
-  pub farthest_more : (n last now : ℕ) → last ≡ farthest t n → now ≡ larger last (column_in t n) → now ≡ farthest t (n + 1)
+  pub farthest_more : (n last now : ℕ) → last ≡ farthest t n → now ≡ max last (column_in t n) → now ≡ farthest t (n + 1)
   unfolding farthest
   farthest_more n last now e h = rw (add-one, ← e) h
 
@@ -38,10 +23,9 @@ module _ (t : List ℕ) where
   unfolding farthest
   farthest_most zero byte l = absurd (omega arith)
   farthest_most (suc n) byte l =
-      let both = larger_both (farthest t n) (column_in t n) in
       ⊎_elim
-      (λ (e : byte ≡ n). rw e both.1)
-      (λ (d : byte ≡ n → ⊥). omega (arith, both.0, farthest_most n byte (omega arith)))
+      (λ (e : byte ≡ n). rw e (omega arith))
+      (λ (d : byte ≡ n → ⊥). omega (arith, farthest_most n byte (omega arith)))
       (eq_or_ne byte n)
 
   -- The column of a byte leaves room for the cells of all dense states.

@@ -15,8 +15,7 @@ use Rattle.seeking.specs.Foreseen.{after_from}
 use Rattle.seeking.proofs.Foreseen.{after_more}
 use Rattle.ahead.specs.Cursors.{cursor, Below, ColumnOf, TurnReady, Turned, with_four}
 use Rattle.ahead.specs.Ahead.{Listed, KeptFrom, RunReady, Ran, AgainReady, Mended}
-use Rattle.ahead.specs.declared.turn.Cursors.{Cursors}
-use Rattle.ahead.proofs.Turns.{column_of_lem, turned_each, length_four, four_there, four_others}
+use Rattle.ahead.proofs.Turns.{column_of_lem, length_first, first_there, first_others}
 
 -- Nothing was written.
 pub kept_none : (from : ℕ) (ahead : List ℕ) → KeptFrom from ahead ahead
@@ -28,10 +27,9 @@ kept_over from early before between after less first then = record { each = λ i
 
 module _ (t part : List ℕ) (states dense : ℕ) (counted : states ≡ state_count_in t) (rows : dense ≡ dense_in t) where
   -- What holds before so many turns holds before each of them,
-  pub turn_ready : (first quarter count i : ℕ) (ahead : List ℕ) (from : Cursors) → RunReady t part first quarter count ahead → Below (state_count_in t) from → i < count
+  pub turn_ready : (first quarter count i : ℕ) (ahead : List ℕ) (from : List ℕ) → RunReady t part first quarter count ahead → Below (state_count_in t) from → i < count
       → TurnReady t part states dense (first + i) quarter from
   turn_ready first quarter count i ahead from ready inside more = record {
-    tables = ready.tables;
     counted = counted;
     rows = rows;
     few_states = omega (arith, ready.few_states);
@@ -43,15 +41,14 @@ module _ (t part : List ℕ) (states dense : ℕ) (counted : states ≡ state_co
   }
 
   -- and what holds before a quarter is looked up alone before each of its bytes.
-  pub next_ready : (from quarter k state index byte column : ℕ) (ahead : List ℕ) → AgainReady t part from quarter k state ahead → index < states → byte < 256 → column ≡ column_in t byte
-      → (Whole t) × (states ≤ room_for_states) × (1 ≤ dense) × (dense ≤ states) × (index < states) × (ColumnOf t dense byte column)
-  next_ready from quarter k state index byte column ahead ready inside small is = (
-    ready.tables,
+  pub next_ready : (from quarter k state index byte column : ℕ) (ahead : List ℕ) → AgainReady t part from quarter k state ahead → index < states → byte < 256 → column ≡ column_in t byte → Whole t
+      → (states ≤ room_for_states) × (1 ≤ dense) × (dense ≤ states) × (index < states) × (ColumnOf t dense byte column)
+  next_ready from quarter k state index byte column ahead ready inside small is whole = (
     omega (arith, ready.few_states),
     omega (arith, ready.some_dense),
     omega (arith, ready.few_dense),
     inside,
-    column_of_lem t dense byte column ready.columns rows (omega (arith, ready.few_dense, ready.few_states)) small is,
+    column_of_lem t dense byte column whole ready.columns rows (omega (arith, ready.few_dense, ready.few_states)) small is,
   )
 
 module _ (t part : List ℕ) where
@@ -74,30 +71,30 @@ module _ (t part : List ℕ) where
 
   -- ── All four ──
 
-  module _ (first quarter : ℕ) (start : Cursors) (before : List ℕ) where
+  module _ (first quarter : ℕ) (start : List ℕ) (before : List ℕ) where
     pub ran_none : Below (state_count_in t) start → Ran t part first quarter 0 start start before before
     unfolding after_from
     ran_none inside = record { ended = λ k l. refl; listed = λ k l. record { each = λ j m. absurd (omega arith) }; inside = inside; behind = kept_none 0 before; long = refl }
 
-    pub ran_more : (count states dense : ℕ) (cursors next : Cursors) (ahead after : List ℕ) → states ≡ state_count_in t → dense ≡ dense_in t
+    pub ran_more : (count states dense : ℕ) (cursors next : List ℕ) (ahead after : List ℕ) → states ≡ state_count_in t → dense ≡ dense_in t
         → Ran t part first quarter count start cursors before ahead → Turned t part states dense (first + count) quarter cursors next
         → 4 * count + 4 ≤ length ahead → after ≡ with_four ahead (4 * count) next → Ran t part first quarter (count + 1) start next before after
     ran_more count states dense cursors next ahead after counted rows ran turned room e = record {
       ended = on;
       listed = λ k l. listed_more (first + k * quarter) (cursor start k) count k (cursor next k) ahead after (ran.listed k l)
-          (λ j m. ap (λ (a : List ℕ). get_or a (4 * j + k) 0) e ∙ four_others ahead (4 * count) next (4 * j + k) (λ q few z. omega arith))
-          (ap (λ (a : List ℕ). get_or a (4 * count + k) 0) e ∙ four_there ahead (4 * count) next room k l)
+          (λ j m. ap (λ (a : List ℕ). get_or a (4 * j + k) 0) e ∙ first_others ahead (4 * count) next 4 (4 * j + k) (λ q few z. omega arith))
+          (ap (λ (a : List ℕ). get_or a (4 * count + k) 0) e ∙ first_there ahead (4 * count) next 4 room k l)
           (on k l);
       inside = rw counted at turned.inside;
-      behind = record { each = λ i l. ap (λ (a : List ℕ). get_or a i 0) e ∙ four_others ahead (4 * count) next i (λ q few z. omega arith) ∙ ran.behind.each i (omega arith) };
-      long = ap length e ∙ length_four ahead (4 * count) next ∙ ran.long;
+      behind = record { each = λ i l. ap (λ (a : List ℕ). get_or a i 0) e ∙ first_others ahead (4 * count) next 4 i (λ q few z. omega arith) ∙ ran.behind.each i (omega arith) };
+      long = ap length e ∙ length_first ahead (4 * count) next 4 ∙ ran.long;
     }
       where
         on : (k : ℕ) → k < 4 → cursor next k ≡ after_from t part (first + k * quarter) (cursor start k) (count + 1)
         on k l =
             let place : first + count + k * quarter ≡ first + k * quarter + count = omega arith in
             stepped (first + k * quarter) (cursor start k) count (cursor cursors k) (cursor next k) (first + count + k * quarter) (ran.ended k l) place
-            (turned_each t part states dense (first + count) quarter cursors next turned k l
+            (turned.each k l
             ∙ ap₂ (λ (n d : ℕ). quick_in t n d (cursor cursors k) (get_or part (first + count + k * quarter) 0)) counted rows)
 
   -- ── One alone ──

@@ -29,7 +29,7 @@ pub record Blocks (t part m₀ room₀ : List ℕ) (phrases free : ℕ) (from : 
   pub roomy : length room ≡ length room₀
 
 module _ {t m₀ part room₀ : List ℕ} {from : Progress} where
-  pub blocks_start : {phrases quarter : ℕ} → BlocksReady t m₀ part (length room₀ / 2) from → phrases ≡ phrase_count_in t → quarter ≡ quarter_of (length part - from.taken) (free_after (length room₀ / 2) (run_of from m₀ room₀)) phrases
+  pub blocks_start : {phrases quarter : ℕ} → BlocksReady t m₀ part (length room₀ / 2) from → phrases ≡ phrase_count_in t → quarter ≡ quarter_of (length part - from.way.taken) (free_after (length room₀ / 2) (run_of from m₀ room₀)) phrases
       → Blocks t part m₀ room₀ phrases (length room₀ / 2) from m₀ room₀ quarter from
   blocks_start ready counted next = record {
     ready = ready;
@@ -43,8 +43,8 @@ module _ {t m₀ part room₀ : List ℕ} {from : Progress} where
   }
 
   module _ {m room : List ℕ} {phrases free quarter : ℕ} {progress : Progress} (blocks : Blocks t part m₀ room₀ phrases free from m room quarter progress) where
-    block_fits : QuarterFits (length part - progress.taken) quarter
-    block_fits = rw blocks.next (quarter_fits (length part - progress.taken) (free_after (length room₀ / 2) (run_of progress m room)) (phrase_count_in t))
+    block_fits : QuarterFits (length part - progress.way.taken) quarter
+    block_fits = rw blocks.next (quarter_fits (length part - progress.way.taken) (free_after (length room₀ / 2) (run_of progress m room)) (phrase_count_in t))
 
     pub block_counted : phrases < 65536
     block_counted = omega (arith, blocks.counted, blocks.ready.on.ready.phrases)
@@ -53,7 +53,7 @@ module _ {t m₀ part room₀ : List ℕ} {from : Progress} where
     pub block_word : Fits w64 (4 * quarter)
     block_word = record { fits = omega (arith, block_fits.short) }
 
-    pub block_end_word : Fits w64 (progress.taken + 4 * quarter)
+    pub block_end_word : Fits w64 (progress.way.taken + 4 * quarter)
     block_end_word = record { fits = omega (arith, block_fits.short, blocks.kept.kept.within, blocks.ready.on.short) }
 
     pub block_ready : 0 < quarter → BlockReady t m part (length room / 2) quarter progress
@@ -71,9 +71,9 @@ module _ {t m₀ part room₀ : List ℕ} {from : Progress} where
     }
 
     -- One more was taken.
-    module _ {m₁ room₁ : List ℕ} {to : Progress} (took : Took t (take (progress.taken + 4 * quarter) part) (length room / 2) m room progress m₁ room₁ to) where
+    module _ {m₁ room₁ : List ℕ} {to : Progress} (took : Took t (take (progress.way.taken + 4 * quarter) part) (length room / 2) m room progress m₁ room₁ to) where
       abbrev end : ℕ
-      end = progress.taken + 4 * quarter
+      end = progress.way.taken + 4 * quarter
 
       end_within : end ≤ length part
       end_within = omega (arith, block_fits.within, blocks.kept.kept.within)
@@ -87,17 +87,17 @@ module _ {t m₀ part room₀ : List ℕ} {from : Progress} where
       -- It is the next block of the definition.
       is_next : run_of to m₁ room₁ ≡ block_taken t (length room₀ / 2) part (run_of progress m room)
       unfolding block_taken
-      is_next = here.all ∙ ap (λ (q : ℕ). to_come t (length room₀ / 2) (take (progress.taken + 4 * q) part) (run_of progress m room)) blocks.next
+      is_next = here.all ∙ ap (λ (q : ℕ). to_come t (length room₀ / 2) (take (progress.way.taken + 4 * q) part) (run_of progress m room)) blocks.next
 
       onward : all_blocks t (length room₀ / 2) part (run_of to m₁ room₁) ≡ all_blocks t (length room₀ / 2) part (run_of from m₀ room₀)
       onward =
           ap (all_blocks t (length room₀ / 2) part) is_next ∙ blocks_all t (length room₀ / 2) part (run_of progress m room) blocks.kept.kept.within ∙ blocks.rest
 
       -- It was not taken whole: these were all blocks.
-      pub block_stopped : to.taken < end → TookBlocks t part (length room₀ / 2) m₀ room₀ from m₁ room₁ to
+      pub block_stopped : to.way.taken < end → TookBlocks t part (length room₀ / 2) m₀ room₀ from m₁ room₁ to
       block_stopped short = record {
         all = ⊎_elim
-            (λ (whole : to.taken ≡ end). absurd (omega arith))
+            (λ (whole : to.way.taken ≡ end). absurd (omega arith))
             (λ (full : free_after (length room₀ / 2) (run_of to m₁ room₁) < phrase_count_in t).
             sym (blocks_full t (length room₀ / 2) part (length part) (run_of to m₁ room₁) block_kept.kept.within full) ∙ onward)
             (upto_stops t (length room₀ / 2) part end (run_of progress m room) (run_of to m₁ room₁) end_within (omega arith) here.all);
@@ -105,16 +105,16 @@ module _ {t m₀ part room₀ : List ℕ} {from : Progress} where
       }
 
       -- It was taken whole: fewer bytes remain.
-      pub block_less : 0 < quarter → end ≤ to.taken → length part - to.taken < length part - progress.taken
+      pub block_less : 0 < quarter → end ≤ to.way.taken → length part - to.way.taken < length part - progress.way.taken
       block_less some whole = omega (arith, block_kept.kept.within)
 
-      pub blocks_next : {after : ℕ} → after ≡ quarter_of (length part - to.taken) (free_after free (run_of to m₁ room₁)) phrases → length m₁ ≡ length m → length room₁ ≡ length room
+      pub blocks_next : {after : ℕ} → after ≡ quarter_of (length part - to.way.taken) (free_after free (run_of to m₁ room₁)) phrases → length m₁ ≡ length m → length room₁ ≡ length room
           → Blocks t part m₀ room₀ phrases free from m₁ room₁ after to
       blocks_next next long roomy = record {
         ready = blocks.ready;
         counted = blocks.counted;
         spare = blocks.spare;
-        next = next ∙ ap₂ (λ (f p : ℕ). quarter_of (length part - to.taken) (free_after f (run_of to m₁ room₁)) p) blocks.spare blocks.counted;
+        next = next ∙ ap₂ (λ (f p : ℕ). quarter_of (length part - to.way.taken) (free_after f (run_of to m₁ room₁)) p) blocks.spare blocks.counted;
         rest = onward;
         kept = block_kept;
         long = long ∙ blocks.long;

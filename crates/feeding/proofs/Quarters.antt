@@ -2,17 +2,14 @@
 -- there is no room for another byte.
 -- Assumes nothing.
 use mathlib.Core.Path.{◌≡◌, refl, sym, ap, ◌∙◌}
-use mathlib.Core.Bool.{true}
 use mathlib.Core.List.{List}
 use Prim.Native.Nat.{ℕ, ◌+◌, ◌-◌, ◌*◌, ◌/◌, ◌≤◌, ◌<◌}
 use native.Mathlib.Nat.{add-mul, mul-le-mul_right}
 use native.Mathlib.Omega.{arith}
-use lib.Dec.{leb}
 use lib.ListN.{length, take}
 use lib.Seq.{length-take-le, get_or-take}
 use mir.Syntax.{w64}
 use mir.Val.{Fits}
-use borrow.Author.Tests.{leb-true}
 use Rattle.seeking.specs.Foreseen.{after_from}
 use Rattle.seeking.proofs.Foreseen.{looked_quarter}
 use Rattle.feeding.specs.Taken.{run_of}
@@ -24,18 +21,18 @@ use Rattle.feeding.proofs.Upto.{upto_none, upto_upto, upto_stopped, upto_state, 
 pub record Quarters (t part states : List ℕ) (quarter : ℕ) (m₀ room₀ : List ℕ) (from : Progress) (m room : List ℕ) (end : ℕ) (progress : Progress) (k : ℕ) : Type 0 where
   pub ready : QuartersReady t m₀ part (length room₀ / 2) states quarter from
   pub few : k ≤ 4
-  pub reached : end ≡ from.taken + k * quarter
-  pub whole : progress.taken ≡ end
+  pub reached : end ≡ from.way.taken + k * quarter
+  pub whole : progress.way.taken ≡ end
   pub took : Took t (take end part) (length room₀ / 2) m₀ room₀ from m room progress
   pub long : length m ≡ length m₀
   pub roomy : length room ≡ length room₀
 
 -- Where a block ends.
 abbrev block_end : Progress → ℕ → ℕ
-block_end from quarter = from.taken + 4 * quarter
+block_end from quarter = from.way.taken + 4 * quarter
 
 module _ {t m₀ part room₀ states : List ℕ} {quarter : ℕ} {from : Progress} where
-  pub quarters_start : QuartersReady t m₀ part (length room₀ / 2) states quarter from → Quarters t part states quarter m₀ room₀ from m₀ room₀ from.taken from 0
+  pub quarters_start : QuartersReady t m₀ part (length room₀ / 2) states quarter from → Quarters t part states quarter m₀ room₀ from m₀ room₀ from.way.taken from 0
   quarters_start ready = record {
     ready = ready;
     few = omega arith;
@@ -46,7 +43,7 @@ module _ {t m₀ part room₀ states : List ℕ} {quarter : ℕ} {from : Progres
       kept = record {
         kept = record {
           inside = ready.on.kept.inside;
-          within = omega (arith, length-take-le from.taken part ready.on.kept.within);
+          within = omega (arith, length-take-le from.way.taken part ready.on.kept.within);
           few_gains = ready.on.kept.few_gains;
         };
         few = ready.on.few;
@@ -58,21 +55,21 @@ module _ {t m₀ part room₀ states : List ℕ} {quarter : ℕ} {from : Progres
   }
 
   module _ {m room : List ℕ} {end : ℕ} {progress : Progress} {k : ℕ} (quarters : Quarters t part states quarter m₀ room₀ from m room end progress k) where
-    pub begun : from.taken ≤ end
+    pub begun : from.way.taken ≤ end
     begun = omega (arith, quarters.reached)
 
     -- The state is that after the quarters before.
-    state : end ≤ length part → progress.state.0 ≡ after_from t part from.taken from.state.0 (k * quarter)
+    state : end ≤ length part → progress.way.state.0 ≡ after_from t part from.way.taken from.way.state.0 (k * quarter)
     state within =
-        let count : progress.taken - from.taken ≡ k * quarter = omega (arith, quarters.whole, quarters.reached) in
+        let count : progress.way.taken - from.way.taken ≡ k * quarter = omega (arith, quarters.whole, quarters.reached) in
         upto_state t (length room₀ / 2) part end (run_of from m₀ room₀) (run_of progress m room) within begun quarters.took.all
-        ∙ ap (after_from t part from.taken from.state.0) count
+        ∙ ap (after_from t part from.way.taken from.way.state.0) count
 
     -- Four quarters are the block.
     pub quarters_all : 4 ≤ k → Took t (take (block_end from quarter) part) (length room₀ / 2) m₀ room₀ from m room progress
     quarters_all all =
         let four : k ≡ 4 = omega (arith, quarters.few) in
-        let last : end ≡ block_end from quarter = quarters.reached ∙ ap (λ (n : ℕ). from.taken + n * quarter) four in
+        let last : end ≡ block_end from quarter = quarters.reached ∙ ap (λ (n : ℕ). from.way.taken + n * quarter) four in
         rw last at quarters.took
 
     module _ (more : k < 4) where
@@ -95,7 +92,7 @@ module _ {t m₀ part room₀ states : List ℕ} {quarter : ℕ} {from : Progres
       quarter_ready = record {
         on = rw quarters.roomy (ready_upto quarters.ready.on (kept_on {first = part} (omega (arith, length-take-le end part (omega (arith, quarter_within)), quarter_within)) (kept_start quarters.ready.on) quarters.took.kept) quarters.long (take (end + quarter) part) (omega (arith, quarter_long, quarter_within)) (omega (arith, quarter_long, quarters.whole)));
         of_four = more;
-        foreseen = rw (quarters.whole ∙ quarters.reached, state (omega (arith, quarter_within))) (looked_quarter t part (take (end + quarter) part) from.taken quarter from.state.0 k states quarters.ready.looked more (omega (arith, quarter_long, quarters.reached)) (λ i l. sym (get_or-take (end + quarter) part i 0 (omega (arith, quarter_long)))));
+        foreseen = rw (quarters.whole ∙ quarters.reached, state (omega (arith, quarter_within))) (looked_quarter t part (take (end + quarter) part) from.way.taken quarter from.way.state.0 k states quarters.ready.looked more (omega (arith, quarter_long, quarters.reached)) (λ i l. sym (get_or-take (end + quarter) part i 0 (omega (arith, quarter_long)))));
         room_for = omega (arith, quarters.ready.room_for, quarter_long, quarters.whole);
       }
 
@@ -111,13 +108,13 @@ module _ {t m₀ part room₀ states : List ℕ} {quarter : ℕ} {from : Progres
             }
 
         -- The quarter was not taken whole, and so no byte of the block behind it is taken.
-        pub quarter_stopped : to.taken < end + quarter → Took t (take (block_end from quarter) part) (length room₀ / 2) m₀ room₀ from m₁ room₁ to
+        pub quarter_stopped : to.way.taken < end + quarter → Took t (take (block_end from quarter) part) (length room₀ / 2) m₀ room₀ from m₁ room₁ to
         quarter_stopped short = record {
           all = upto_stopped t (length room₀ / 2) part (end + quarter) (block_end from quarter) (run_of from m₀ room₀) (run_of to m₁ room₁) quarters.ready.within bound (omega (arith, begun)) upto_here.all short;
           kept = kept_on (omega (arith, quarter_long, length-take-le (block_end from quarter) part quarters.ready.within, bound)) (kept_start quarters.ready.on) upto_here.kept;
         }
 
-        pub quarter_next_lem : end + quarter ≤ to.taken → length m₁ ≡ length m → length room₁ ≡ length room
+        pub quarter_next_lem : end + quarter ≤ to.way.taken → length m₁ ≡ length m → length room₁ ≡ length room
             → Quarters t part states quarter m₀ room₀ from m₁ room₁ (end + quarter) to (k + 1)
         quarter_next_lem whole same roomy = record {
           ready = quarters.ready;
@@ -128,23 +125,3 @@ module _ {t m₀ part room₀ states : List ℕ} {quarter : ℕ} {from : Progres
           long = same ∙ quarters.long;
           roomy = roomy ∙ quarters.roomy;
         }
-
--- ── Halves of two quarters each ──
-
-module _ {half halves : ℕ} (few : leb halves 2 ≡ true) (more : half < halves) where
-  of_two : half < 2
-  of_two = omega (arith, leb-true halves 2 few)
-
-  pub half_first : 2 * half < 4
-  half_first = omega (arith, of_two)
-
-  pub half_second : 2 * half + 1 < 4
-  half_second = omega (arith, of_two)
-
-  pub half_word : Fits w64 (2 * half)
-  half_word = record { fits = omega (arith, of_two) }
-
--- So many quarters, said in another way.
-pub quarters_more : {t part states m₀ room₀ m room : List ℕ} {quarter end : ℕ} {from progress : Progress} {k n : ℕ} → n ≡ k
-    → Quarters t part states quarter m₀ room₀ from m room end progress k → Quarters t part states quarter m₀ room₀ from m room end progress n
-quarters_more same quarters = rw same quarters

@@ -148,10 +148,9 @@ module _ {t m₀ part : List ℕ} {room : ℕ} {from : Progress} (on : ReadyOn t
 
   -- What is ready stays ready, also for the first bytes of the part alone.
   pub ready_upto : {to : Progress} {m : List ℕ} → KeptOn t part room from to → length m ≡ length m₀ → (upto : List ℕ) → length upto ≤ length part
-      → to.taken ≤ length upto → ReadyOn t m upto room to
+      → to.way.taken ≤ length upto → ReadyOn t m upto room to
   ready_upto {to} kept long upto shorter within = record {
     ready = record {
-      tables = on.ready.tables;
       memory = omega (arith, on.ready.memory);
       states = on.ready.states;
       some_dense = on.ready.some_dense;
@@ -179,10 +178,9 @@ kept_on shorter before after = record {
 
 -- Before the first byte of a part.
 pub ready_start : {t m part : List ℕ} (state : State) (place : Place) (free : ℕ) → Ready t m (length part) state.0 place.0
-    → ReadyOn t m part free (record { state = state; place = place; taken = 0; written = 0; gains = 0 })
+    → ReadyOn t m part free (record { way = record { state = state; place = place; taken = 0; gains = 0 }; written = 0 })
 ready_start {t} {m} {part} state place free ready = record {
   ready = record {
-    tables = ready.tables;
     memory = ready.memory;
     states = ready.states;
     some_dense = ready.some_dense;

@@ -1,9 +1,8 @@
 -- The bytes that a call takes, whatever the tables and the running memory hold. Assumes nothing: these are definitions.
-use Rattle.std.specs.Prelude.{false, cond, List, [], ◌∷◌, ℕ, ◌+◌, ◌-◌, ltb, drop}
+use Rattle.std.specs.Prelude.{cond, List, [], ◌∷◌, ℕ, ◌+◌, ◌-◌, ltb, drop}
 use Rattle.tables.specs.Reads.{phrase_count_in, depth_in, gain_in}
 use Rattle.seeking.specs.Quick.{quick_next}
 use Rattle.window.specs.Happened.{Here, happened}
-use Rattle.gliding.specs.declared.Way.{Way}
 use Rattle.feeding.specs.declared.Progress.{Progress}
 
 -- How far a call has come: the state, the place, the bytes taken, the sum of their gains; and the reports with their room, and the memory.
@@ -17,20 +16,12 @@ pub record Run : Type 0 where
 -- What the code carries along, and what it has written.
 abbrev pub run_of : Progress → List ℕ → List ℕ → Run
 run_of progress memory room = record {
-  state = progress.state.0;
-  place = progress.place.0;
-  taken = progress.taken;
-  gains = progress.gains;
+  state = progress.way.state.0;
+  place = progress.way.place.0;
+  taken = progress.way.taken;
+  gains = progress.way.gains;
   here = record { reports = record { written = progress.written; room = room }; memory = memory };
 }
-
--- The way that was gone, and the reports written on it.
-abbrev pub progress_on : Way → ℕ → Progress
-progress_on way written = record { state = way.state; place = way.place; taken = way.taken; written = written; gains = way.gains }
-
--- The way from where a call has come to.
-abbrev pub way_from : Progress → Way
-way_from from = record { state = from.state; place = from.place; taken = from.taken; gains = from.gains; event = false }
 
 -- Before the first byte of a part.
 abbrev pub at_start : ℕ → ℕ → List ℕ → List ℕ → Run

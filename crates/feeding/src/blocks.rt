@@ -4,12 +4,11 @@ ghost use Rattle.feeding.specs.Blocks.{quarter_of};
 ghost use Rattle.feeding.specs.Ready.{ReadyOn, Took, QuartersReady, BlocksReady, BlockReady, TookBlocks, TookAhead};
 
 use crate::Progress;
-use crate::quarter::take_quarter;
+use crate::bytes::take_quarter;
+use tables::Tables;
 
 // The quarters of a block.
 const QUARTERS: usize = 4;
-
-const HALVES: usize = 2;
 
 // The bytes of the longest quarter.
 const LONGEST: usize = 1024;
@@ -24,10 +23,9 @@ const SHORTEST: usize = 512;
 // written at least so many for the states that were looked up in vain.
 const SPARE: usize = 512;
 
-// The quarters of a block one after the other, the first from where a call has come to, as long as each is taken whole. A turn takes two of them: so the taking of
-// a quarter stays a function of its own, with its numbers in registers.
+// The quarters of a block one after the other, the first from where a call has come to, as long as each is taken whole.
 fn take_quarters(
-    t: &[u8],
+    t: &Tables,
     m: &mut [u8],
     part: &[u8],
     room: &mut [u32],
@@ -36,31 +34,23 @@ fn take_quarters(
     from: Progress,
 ) -> Progress
     requires { QuartersReady t.now m.old part.now (length room.old / 2) states.now quarter from }
-    ensures { Took t.now (take (from.taken + 4 * quarter) part.now) (length room.old / 2) m.old room.old from m.new room.new result }
+    ensures { Took t.now (take (from.way.taken + 4 * quarter) part.now) (length room.old / 2) m.old room.old from m.new room.new result }
 {
-    let mut end = from.taken;
+    let mut end = from.way.taken;
     let mut progress = from;
-    let mut half = 0;
-    while half < HALVES {
-        let k = 2 * half;
+    for k in 0..QUARTERS {
         end += quarter;
         progress = take_quarter(t, m, &part[..end], room, states, k, progress);
-        if progress.taken < end {
+        if progress.way.taken < end {
             return progress;
         }
-        end += quarter;
-        progress = take_quarter(t, m, &part[..end], room, states, k + 1, progress);
-        if progress.taken < end {
-            return progress;
-        }
-        half += 1;
     }
     progress
 }
 
 // A block: its states are looked up, and then its bytes are taken.
 fn take_block(
-    t: &[u8],
+    t: &Tables,
     m: &mut [u8],
     part: &[u8],
     room: &mut [u32],
@@ -68,11 +58,11 @@ fn take_block(
     from: Progress,
 ) -> Progress
     requires { BlockReady t.now m.old part.now (length room.old / 2) quarter from }
-    ensures { Took t.now (take (from.taken + 4 * quarter) part.now) (length room.old / 2) m.old room.old from m.new room.new result }
+    ensures { Took t.now (take (from.way.taken + 4 * quarter) part.now) (length room.old / 2) m.old room.old from m.new room.new result }
 {
     let mut states = [0u16; STATES];
-    let state = from.state;
-    ahead::look_ahead(t, part, from.taken, quarter, state, &mut states);
+    let state = from.way.state;
+    ahead::look_ahead(t, part, from.way.taken, quarter, state, &mut states);
     take_quarters(t, m, part, room, &states, quarter, from)
 }
 
@@ -95,22 +85,22 @@ fn quarter_of(remaining: usize, free: usize, phrases: usize) -> usize
 }
 
 // Blocks one after the other, as long as each is taken whole and another fits.
-fn take_blocks(t: &[u8], m: &mut [u8], part: &[u8], room: &mut [u32], from: Progress) -> Progress
+fn take_blocks(t: &Tables, m: &mut [u8], part: &[u8], room: &mut [u32], from: Progress) -> Progress
     requires { BlocksReady t.now m.old part.now (length room.old / 2) from }
     ensures { TookBlocks t.now part.now (length room.old / 2) m.old room.old from m.new room.new result }
 {
-    let phrases = tables::phrase_count(t);
+    let phrases = t.phrase_count();
     let free = room.len() / 2;
-    let mut quarter = quarter_of(part.len() - from.taken, free - from.written, phrases);
+    let mut quarter = quarter_of(part.len() - from.way.taken, free - from.written, phrases);
     let mut progress = from;
     while 0 < quarter {
-        let end = progress.taken + QUARTERS * quarter;
+        let end = progress.way.taken + QUARTERS * quarter;
         progress = take_block(t, m, part, room, quarter, progress);
-        if progress.taken < end {
+        if progress.way.taken < end {
             return progress;
         }
         quarter = quarter_of(
-            part.len() - progress.taken,
+            part.len() - progress.way.taken,
             free - progress.written,
             phrases,
         );
@@ -120,7 +110,13 @@ fn take_blocks(t: &[u8], m: &mut [u8], part: &[u8], room: &mut [u32], from: Prog
 
 // As much of a part as is taken in blocks. It is nothing of a short part, and nothing with tables from elsewhere whose columns do not
 // fit.
-pub fn take_ahead(t: &[u8], m: &mut [u8], part: &[u8], room: &mut [u32], from: Progress) -> Progress
+pub fn take_ahead(
+    t: &Tables,
+    m: &mut [u8],
+    part: &[u8],
+    room: &mut [u32],
+    from: Progress,
+) -> Progress
     requires { ReadyOn t.now m.old part.now (length room.old / 2) from }
     ensures { TookAhead t.now part.now (length room.old / 2) m.old room.old from m.new room.new result }
 {

@@ -3,59 +3,26 @@
 #![tactic(auto)]
 
 ghost use Rattle.std.specs.Prelude.{◌≡◌, ◌/◌, length};
-ghost use Rattle.feeding.specs.Taken.{at_start, run_of, progress_on, way_from, part_taken, steps_of};
+ghost use Rattle.feeding.specs.Taken.{at_start, run_of, part_taken, steps_of};
 ghost use Rattle.feeding.specs.Ready.{Ready, Kept, Countable};
 
 use counters::{Place, State};
 use gliding::Way;
+use tables::Tables;
 
 mod blocks; // blocks.rt: blocks whose states are looked up ahead
-mod quarter; // quarter.rt: a quarter of a block
-mod rest; // rest.rt: the rest of a part, byte by byte
+mod bytes; // bytes.rt: the bytes of a quarter of a block, and of the rest of a part
 
-// How far a call has come: the state and the place, and the bytes taken, the reports written and the sum of the gains of the call.
+// How far a call has come: the way that it has gone, and the reports written on it.
 #[derive(Clone, Copy)]
 pub struct Progress {
-    pub state: State,
-    pub place: Place,
-    pub taken: usize,
+    pub way: Way,
     pub written: usize,
-    pub gains: u64,
-}
-
-// The way that was gone, and the reports written on it.
-fn progress_on(way: Way, written: usize) -> Progress
-    ensures { result ≡ progress_on way written }
-{
-    let state = way.state;
-    let place = way.place;
-    Progress {
-        state,
-        place,
-        taken: way.taken,
-        written,
-        gains: way.gains,
-    }
-}
-
-// The way from where a call has come to.
-fn way_from(from: Progress) -> Way
-    ensures { result ≡ way_from from }
-{
-    let state = from.state;
-    let place = from.place;
-    Way {
-        state,
-        place,
-        taken: from.taken,
-        gains: from.gains,
-        event: false,
-    }
 }
 
 // The bytes of a part, from a state and a place on.
 pub fn take_bytes(
-    t: &[u8],
+    t: &Tables,
     m: &mut [u8],
     part: &[u8],
     room: &mut [u32],
@@ -65,28 +32,25 @@ pub fn take_bytes(
     requires { Ready t.now m.old (length part.now) state.0 place.0 }
     ensures { (run_of result m.new room.new ≡ part_taken t.now (length room.old / 2) part.now (at_start state.0 place.0 m.old room.old)) × (Kept t.now part.now result) }
 {
-    let start = Progress {
+    let way = Way {
         state,
         place,
         taken: 0,
-        written: 0,
         gains: 0,
     };
+    let start = Progress { way, written: 0 };
     let progress = blocks::take_ahead(t, m, part, room, start);
-    rest::take_rest(t, m, part, room, progress)
+    bytes::take_rest(t, m, part, room, progress)
 }
 
 // The failure steps of the bytes taken since a state. A byte adds one to the depth of the state, less its gain, and a failure step
 // takes one away. With tables from elsewhere it may not come out, and the steps are then 0.
-pub fn steps_since(t: &[u8], first: State, progress: Progress) -> u64
+pub fn steps_since(t: &Tables, first: State, progress: Progress) -> u64
     requires { Countable t.now first.0 progress }
-    ensures { result ≡ steps_of t.now first.0 progress.state.0 progress.taken progress.gains }
+    ensures { result ≡ steps_of t.now first.0 progress.way.state.0 progress.way.taken progress.way.gains }
 {
-    let last = progress.state;
-    let brought = lent::size64(progress.taken) + lent::wide64(tables::depth(t, first));
-    let left = progress.gains + lent::wide64(tables::depth(t, last));
-    if brought < left {
-        return 0;
-    }
-    brought - left
+    let last = progress.way.state;
+    let brought = progress.way.taken as u64 + u64::from(t.depth(first));
+    let left = progress.way.gains + u64::from(t.depth(last));
+    brought.saturating_sub(left)
 }

@@ -14,6 +14,7 @@ use Rattle.seeking.specs.Quick.{sought_in, quick_in}
 use Rattle.seeking.proofs.Found.{quick_found, quick_stray}
 use Rattle.gliding.specs.Glide.{Gone, further, quiet_at, goes_on, Glide, one_on, glide_in, glide_of, GlideKept}
 use Rattle.gliding.specs.declared.Way.{Way}
+use Rattle.gliding.specs.declared.Went.{Went}
 
 -- ── One byte ──
 
@@ -97,12 +98,12 @@ pub record Gliding (t m part : List ℕ) (from : Gone) (whole : Glide) (gone : G
   pub rest : glide_in t m (drop gone.taken part) gone ≡ whole
 
 -- A way is kept where it has gone as far as these numbers say.
-pub kept_by : (t part : List ℕ) (first to : Way) (gone : Gone) (event : Bool) → glide_of to ≡ record { gone = gone; event = event }
+pub kept_by : (t part : List ℕ) (first : Way) (to : Went) (gone : Gone) (event : Bool) → glide_of to ≡ record { gone = gone; event = event }
     → gone.state < state_count_in t → gone.taken ≤ length part → first.taken ≤ gone.taken → (event ≡ true → first.taken < gone.taken)
     → gone.place + first.taken ≡ first.place.0 + gone.taken → gone.gains ≤ 128 * gone.taken → GlideKept t part first to
 kept_by t part first to gone event is inside within onward more early few =
-    let taken : to.taken ≡ gone.taken = ap (λ (g : Glide). g.gone.taken) is in
-    let place : to.place.0 ≡ gone.place = ap (λ (g : Glide). g.gone.place) is in
+    let taken : to.way.taken ≡ gone.taken = ap (λ (g : Glide). g.gone.taken) is in
+    let place : to.way.place.0 ≡ gone.place = ap (λ (g : Glide). g.gone.place) is in
     record {
       inside = omega (arith, ap (λ (g : Glide). g.gone.state) is);
       within = omega arith;
@@ -129,7 +130,7 @@ module _ (t m part : List ℕ) where
         stopped y e = rw e
 
     -- The loop ends where no byte is left.
-    pub end_kept : (first to : Way) → first.taken ≡ from.taken → first.place.0 ≡ from.place → glide_of to ≡ record { gone = gone; event = false } → GlideKept t part first to
+    pub end_kept : (first : Way) (to : Went) → first.taken ≡ from.taken → first.place.0 ≡ from.place → glide_of to ≡ record { gone = gone; event = false } → GlideKept t part first to
     end_kept first to taken place is =
         kept_by t part first to gone false is g.inside g.within (omega (arith, g.onward)) (λ e. absurd (false≢true e)) (omega (arith, g.early)) g.few_gains
 
@@ -146,7 +147,7 @@ module _ (t m part : List ℕ) where
       turn_stop e = is ∙ sym (glide_stops t m gone byte (drop (suc gone.taken) part) (sym (ap (λ (h : Glide). h.event) is) ∙ e)) ∙ onward
 
       pub stop_kept : to.gone.state < state_count_in t → to.gone.place ≡ gone.place + 1 → to.gone.taken ≡ gone.taken + 1 → to.gone.gains ≤ 128 * to.gone.taken
-          → (first last : Way) → first.taken ≡ from.taken → first.place.0 ≡ from.place → glide_of last ≡ to → GlideKept t part first last
+          → (first : Way) (last : Went) → first.taken ≡ from.taken → first.place.0 ≡ from.place → glide_of last ≡ to → GlideKept t part first last
       stop_kept inside place taken few first last same there e =
           kept_by t part first last to.gone to.event e inside (omega arith) (omega (arith, g.onward)) (λ z. omega (arith, g.onward)) (omega (arith, g.early)) few
 

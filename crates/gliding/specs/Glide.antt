@@ -1,11 +1,12 @@
 -- The quiet loop: bytes are taken until something happens. Assumes nothing: these are definitions.
 use Rattle.std.specs.Prelude.{Bool, true, false, cond, not, List, [], ◌∷◌, ℕ, ◌+◌, ◌*◌, ◌≤◌, ◌<◌, eqb, length, ◌≡◌}
 use Rattle.tables.specs.Layout.{room_for_states}
-use Rattle.tables.specs.Reads.{Whole, state_count_in, dense_in, gain_in, ending_in}
+use Rattle.tables.specs.Reads.{state_count_in, dense_in, gain_in, ending_in}
 use Rattle.running.specs.Waiting.{slot_of}
 use Rattle.running.specs.Reads.{WholeRunning, flag_in}
 use Rattle.seeking.specs.Quick.{quick_next}
 use Rattle.gliding.specs.declared.Way.{Way}
+use Rattle.gliding.specs.declared.Went.{Went}
 
 -- How far bytes have been taken: the state, the place, how many bytes, and the sum of the gains.
 pub record Gone : Type 0 where
@@ -55,12 +56,11 @@ glide_in t m (byte ∷ rest) gone =
 abbrev pub gone_by : Way → Gone
 gone_by way = record { state = way.state.0; place = way.place.0; taken = way.taken; gains = way.gains }
 
-abbrev pub glide_of : Way → Glide
-glide_of way = record { gone = gone_by way; event = way.event }
+abbrev pub glide_of : Went → Glide
+glide_of went = record { gone = gone_by went.way; event = went.event }
 
--- What holds before bytes of a part are taken: the memories have their sizes, the counts of the tables are in range, and so are state, place and gains.
+-- What holds before bytes of a part are taken: the running memory has its size, the counts of the tables are in range, and so are state, place and gains.
 pub record GlideReady (t m part : List ℕ) (from : Way) : Type 0 where
-  pub tables : Whole t
   pub memory : WholeRunning m
   pub few_states : state_count_in t ≤ room_for_states
   pub some_dense : 1 ≤ dense_in t
@@ -73,10 +73,10 @@ pub record GlideReady (t m part : List ℕ) (from : Way) : Type 0 where
 
 -- What gliding keeps: the state is one of the tables', no more bytes are taken than there are, an event has its byte, the place goes on with the
 -- bytes, and each byte gains less than 128.
-pub record GlideKept (t part : List ℕ) (from to : Way) : Type 0 where
-  pub inside : to.state.0 < state_count_in t
-  pub within : to.taken ≤ length part
-  pub onward : from.taken ≤ to.taken
-  pub more : to.event ≡ true → from.taken < to.taken
-  pub early : to.place.0 + from.taken ≡ from.place.0 + to.taken
-  pub few_gains : to.gains ≤ 128 * to.taken
+pub record GlideKept (t part : List ℕ) (from : Way) (to : Went) : Type 0 where
+  pub inside : to.way.state.0 < state_count_in t
+  pub within : to.way.taken ≤ length part
+  pub onward : from.taken ≤ to.way.taken
+  pub more : to.event ≡ true → from.taken < to.way.taken
+  pub early : to.way.place.0 + from.taken ≡ from.place.0 + to.way.taken
+  pub few_gains : to.way.gains ≤ 128 * to.way.taken

@@ -1,7 +1,7 @@
 -- One byte of the quiet loop, as the code carries it along. Assumes nothing: these are definitions.
 use Rattle.std.specs.Prelude.{◌≡◌, List, ℕ, ◌+◌, ◌*◌, ◌≤◌, ◌<◌}
 use Rattle.tables.specs.Layout.{room_for_states}
-use Rattle.tables.specs.Reads.{Whole, state_count_in, dense_in}
+use Rattle.tables.specs.Reads.{state_count_in, dense_in}
 use Rattle.running.specs.Reads.{WholeRunning}
 use Rattle.gliding.specs.Glide.{Gone, Glide}
 use Rattle.gliding.specs.declared.Going.{Going}
@@ -15,7 +15,6 @@ going_of going = record { gone = gone_to going; event = going.event }
 
 -- What holds before one byte.
 pub record GoReady (t m : List ℕ) (states dense : ℕ) (from : Going) : Type 0 where
-  pub tables : Whole t
   pub memory : WholeRunning m
   pub counted : states ≡ state_count_in t
   pub rows : dense ≡ dense_in t

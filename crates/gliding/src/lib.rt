@@ -4,31 +4,37 @@
 
 ghost use Rattle.std.specs.Prelude.{◌≡◌, ◌<◌, drop};
 ghost use Rattle.tables.specs.Layout.{room_for_states};
-ghost use Rattle.tables.specs.Reads.{Whole};
 ghost use Rattle.running.specs.Reads.{WholeRunning};
 ghost use Rattle.gliding.specs.Glide.{quiet_at, one_on, glide_in, gone_by, glide_of, GlideReady, GlideKept};
 ghost use Rattle.gliding.specs.Going.{gone_to, going_of, GoReady, GoKept};
 
 use counters::{Place, State};
 use running::layout::FLAG;
+use tables::Tables;
 
-// How far the bytes of a part have been taken: the state, the place, how many bytes, and the sum of the gains; and whether
-// what happens at the last of them is still to be done.
+// How far the bytes of a part have been taken: the state, the place, how many bytes, and the sum of the gains.
 #[derive(Clone, Copy)]
 pub struct Way {
     pub state: State,
     pub place: Place,
     pub taken: usize,
     pub gains: u64,
+}
+
+// A way that was gone, and whether what happens at the last of its bytes is still to be done.
+#[derive(Clone, Copy)]
+pub struct Went {
+    pub way: Way,
+    // Kept, no plainer: in `enum Went { Event(Way), End(Way) }` both variants hold the same way, and a caller takes it out of either in the same words.
     pub event: bool,
 }
 
 // Whether nothing happens once a state is reached at a place: no keyword ends in the state, and no window opens at the place.
-pub fn is_quiet(t: &[u8], m: &[u8], state: State, place: Place) -> bool
-    requires { (Whole t.now) × (WholeRunning m.now) × (state.0 < room_for_states) }
+pub fn is_quiet(t: &Tables, m: &[u8], state: State, place: Place) -> bool
+    requires { (WholeRunning m.now) × (state.0 < room_for_states) }
     ensures { result ≡ quiet_at t.now m.now state.0 place.0 }
 {
-    if tables::has_ending(t, state) {
+    if t.has_ending(state) {
         return false;
     }
     m[FLAG + running::slot_of(place)] == 0
@@ -37,15 +43,17 @@ pub fn is_quiet(t: &[u8], m: &[u8], state: State, place: Place) -> bool
 // The same as the way, with the index of the state: the loop keeps it in one register from byte to byte.
 #[derive(Clone, Copy)]
 struct Going {
+    // Kept, no plainer: `struct Going { index: usize, way: Way, event: bool }` would hold the state twice, and each byte would have to set both.
     index: usize,
     place: Place,
     taken: usize,
     gains: u64,
+    // Kept, no plainer: as in Went, both variants of an enum would hold the same four values.
     event: bool,
 }
 
 // One byte more. What is found for it and is no state leads to the root.
-fn go_on(t: &[u8], m: &[u8], states: usize, dense: usize, from: Going, byte: u8) -> Going
+fn go_on(t: &Tables, m: &[u8], states: usize, dense: usize, from: Going, byte: u8) -> Going
     requires { GoReady t.now m.now states dense from }
     ensures { (going_of result ≡ one_on t.now m.now (gone_to from) byte) × (GoKept states from result) }
 {
@@ -57,11 +65,11 @@ fn go_on(t: &[u8], m: &[u8], states: usize, dense: usize, from: Going, byte: u8)
             index: 0,
             place,
             taken,
-            gains: from.gains + lent::wide64(tables::gain(t, State::root())),
+            gains: from.gains + u64::from(t.gain(State::root())),
             event: !is_quiet(t, m, State::root(), place),
         };
     }
-    let gains = from.gains + lent::wide64(tables::gain(t, seeking::state_at(next)));
+    let gains = from.gains + u64::from(t.gain(seeking::state_at(next)));
     if is_quiet(t, m, seeking::state_at(next), place) {
         return Going {
             index: next,
@@ -81,28 +89,30 @@ fn go_on(t: &[u8], m: &[u8], states: usize, dense: usize, from: Going, byte: u8)
 }
 
 // The way, with the state of the index.
-fn way_to(going: Going) -> Way
+fn way_to(going: Going) -> Went
     requires { going.index < room_for_states }
     ensures { glide_of result ≡ going_of going }
 {
     let place = going.place;
-    Way {
+    let way = Way {
         state: seeking::state_at(going.index),
         place,
         taken: going.taken,
         gains: going.gains,
+    };
+    Went {
+        way,
         event: going.event,
     }
 }
 
-// Takes bytes until something happens, or until none is left. It takes two in a turn: so it is long enough to stay a function of
-// its own, with its numbers in registers.
-pub fn glide(t: &[u8], m: &[u8], part: &[u8], from: Way) -> Way
+// Takes bytes until something happens, or until none is left.
+pub fn glide(t: &Tables, m: &[u8], part: &[u8], from: Way) -> Went
     requires { GlideReady t.now m.now part.now from }
     ensures { (glide_of result ≡ glide_in t.now m.now (drop from.taken part.now) (gone_by from)) × (GlideKept t.now part.now from result) }
 {
-    let states = tables::state_count(t);
-    let dense = tables::dense(t);
+    let states = t.state_count();
+    let dense = t.dense();
     let place = from.place;
     let mut going = Going {
         index: from.state.index(),
@@ -111,17 +121,8 @@ pub fn glide(t: &[u8], m: &[u8], part: &[u8], from: Way) -> Way
         gains: from.gains,
         event: false,
     };
-    while going.taken < part.len() {
-        let at = going.taken;
+    for at in from.taken..part.len() {
         going = go_on(t, m, states, dense, going, part[at]);
-        if going.event {
-            return way_to(going);
-        }
-        let next = going.taken;
-        if part.len() <= next {
-            return way_to(going);
-        }
-        going = go_on(t, m, states, dense, going, part[next]);
         if going.event {
             return way_to(going);
         }

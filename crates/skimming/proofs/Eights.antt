@@ -17,7 +17,7 @@ use Rattle.skimming.specs.Look.{look_in, look_from}
 use Rattle.skimming.specs.Infos.{infos_in, InfosReady}
 use Rattle.skimming.specs.Ready.{LookReady}
 use Rattle.skimming.specs.declared.Looking.{Looking}
-use Rattle.skimming.proofs.Looks.{look, step_quiet, from_quiet, states_on}
+use Rattle.skimming.proofs.Looks.{look, step_quiet, from_quiet}
 
 -- ── The sum ──
 
@@ -37,27 +37,13 @@ module _ (t ahead : List ℕ) where
       let place : at + 4 + 4 * n ≡ at + 4 * suc n = omega arith in
       ap (infos_in t ahead at) more ∙ omega (arith, infos_add n m (at + 4), ap (λ (k : ℕ). infos_in t ahead k m) place)
 
-  -- The first half, and the second.
-  pub first_half : (n m at : ℕ) → InfosReady t ahead at (n + m) → InfosReady t ahead at n
-  first_half n m at ready = record {
-    tables = ready.tables;
-    states = λ i l. ready.states i (omega arith);
-    room = omega (arith, ready.room);
-    near = omega (arith, ready.near);
-  }
-
-  pub second_half : (n m at to : ℕ) → to ≡ at + 4 * n → InfosReady t ahead at (n + m) → InfosReady t ahead to m
-  second_half n m at to there ready = record {
-    tables = ready.tables;
-    states = states_on ahead at (n + m) to m ready.states (omega arith) (omega arith);
-    room = omega (arith, ready.room);
-    near = omega (arith, ready.near);
-  }
+  -- One state more.
+  pub infos_more : (at n sum info : ℕ) {state : ℕ} → sum ≡ infos_in t ahead at n → info ≡ info_in t state → state ≡ get_or ahead (at + 4 * n) 0 → sum + info ≡ infos_in t ahead at (n + 1)
+  infos_more at n sum info e is seen = omega (arith, e, is ∙ ap (info_in t) seen, infos_one (at + 4 * n), infos_add n 1 at)
 
 -- Eight states are left.
 pub eight_ready : (t m ahead : List ℕ) (from : Looking) → LookReady t m ahead from → 8 ≤ from.left → InfosReady t ahead from.at 8
 eight_ready t m ahead from ready enough = record {
-  tables = ready.tables;
   states = λ i l. ready.states i (omega arith);
   room = omega (arith, ready.room);
   near = omega (arith, ready.near);

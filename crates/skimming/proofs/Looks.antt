@@ -87,7 +87,6 @@ same_on t m ahead from on to one two = two ∙ one
 
 pub ready_on : (t m ahead : List ℕ) (from to : Looking) → LookReady t m ahead from → LookKept from to → to.event ≡ false → LookReady t m ahead to
 ready_on t m ahead from to ready kept still = record {
-  tables = ready.tables;
   memory = ready.memory;
   states = states_on ahead from.at from.left to.at to.left ready.states kept.at (omega (arith, kept.left));
   room = omega (arith, ready.room, kept.at);

@@ -12,6 +12,7 @@ use Rattle.seeking.specs.Quick.{quick_in}
 use Rattle.gliding.specs.Glide.{Gone, further, quiet_at, goes_on, Glide, one_on, glide_in, gone_by, glide_of, GlideKept}
 use Rattle.seeking.specs.Foreseen.{after_from}
 use Rattle.gliding.specs.declared.Way.{Way}
+use Rattle.gliding.specs.declared.Went.{Went}
 use Rattle.gliding.proofs.Turns.{kept_by}
 use Rattle.seeking.proofs.Foreseen.{after_more, after_inside}
 use Rattle.skimming.specs.Look.{Look, look_in, look_from}
@@ -103,10 +104,10 @@ abbrev pub start_of : List ℕ → ℕ → ℕ → Way → Looking
 start_of part first k from = record { at = 4 * (from.taken - first) + k; left = length part - from.taken; place = from.place; gains = from.gains; event = false }
 
 -- What is promised of a part that was skimmed.
-abbrev pub Skimmed : List ℕ → List ℕ → List ℕ → Way → Way → Type 0
+abbrev pub Skimmed : List ℕ → List ℕ → List ℕ → Way → Went → Type 0
 Skimmed t m part from to =
     (glide_of to ≡ glide_in t m (drop from.taken part) (gone_by from)) × (GlideKept t part from to)
-    × (to.state.0 ≡ after_from t part from.taken from.state.0 (to.taken - from.taken))
+    × (to.way.state.0 ≡ after_from t part from.taken from.state.0 (to.way.taken - from.taken))
 
 module _ (t m part ahead : List ℕ) (first k : ℕ) (from : Way) (ready : SkimReady t m part ahead first k from) where
   abbrev start : Looking
@@ -128,7 +129,6 @@ module _ (t m part ahead : List ℕ) (first k : ℕ) (from : Way) (ready : SkimR
   start_ready some =
       let glide = ready.glide in
       record {
-        tables = glide.tables;
         memory = glide.memory;
         states = states;
         room = omega (arith, ready.begun, ready.one_of_four, ready.room);
@@ -139,11 +139,11 @@ module _ (t m part ahead : List ℕ) (first k : ℕ) (from : Way) (ready : SkimR
       }
 
   -- No byte is left at the start.
-  pub skimmed_none : length part ≤ from.taken → (to : Way) → glide_of to ≡ record { gone = gone_by from; event = false } → Skimmed t m part from to
+  pub skimmed_none : length part ≤ from.taken → (to : Went) → glide_of to ≡ record { gone = gone_by from; event = false } → Skimmed t m part from to
   unfolding glide_in after_from
   skimmed_none end to is =
       let all : from.taken ≡ length part = omega (arith, ready.glide.within) in
-      let none : to.taken - from.taken ≡ 0 = omega (arith, ap (λ (g : Glide). g.gone.taken) is) in (
+      let none : to.way.taken - from.taken ≡ 0 = omega (arith, ap (λ (g : Glide). g.gone.taken) is) in (
         is ∙ sym (stopped (drop from.taken part) (ap (λ (i : ℕ). drop i part) all ∙ drop-length part)),
         kept_by t part from to (gone_by from) false is ready.glide.inside ready.glide.within (omega arith) (λ e. absurd (false≢true e)) (omega arith) ready.glide.few_gains,
         ap (λ (g : Glide). g.gone.state) is ∙ sym (ap after none),
@@ -183,12 +183,12 @@ module _ (t m part ahead : List ℕ) (first k : ℕ) (from : Way) (ready : SkimR
         ap₂ {C = Glide} (λ (s n : ℕ). record { gone = record { state = s; place = last.place.0; taken = n; gains = last.gains }; event = last.event }) last_state count
 
     -- It goes no further.
-    pub skimmed_some : (to : Way) → look_from t m ahead (look_of last) ≡ look_from t m ahead (look_of start)
+    pub skimmed_some : (to : Went) → look_from t m ahead (look_of last) ≡ look_from t m ahead (look_of start)
         → look_from t m ahead (look_of last) ≡ look_of last → glide_of to ≡ way_of ahead (length part) last → Skimmed t m part from to
     skimmed_some to rest settled is =
         let looked : look_of last ≡ look_all = sym settled ∙ rest ∙ from_quiet t m ahead start.at from.place.0 from.gains start.left false refl in
-        let state : to.state.0 ≡ after reached = ap (λ (g : Glide). g.gone.state) is ∙ last_state in
-        let count : reached ≡ to.taken - from.taken = omega (arith, ap (λ (g : Glide). g.gone.taken) is) in
+        let state : to.way.state.0 ≡ after reached = ap (λ (g : Glide). g.gone.state) is ∙ last_state in
+        let count : reached ≡ to.way.taken - from.taken = omega (arith, ap (λ (g : Glide). g.gone.taken) is) in
         let inside : after reached < state_count_in t = after_inside t part from.taken from.state.0 reached ready.glide.inside in (
           is ∙ way_gone ∙ ap (glide_by t m part ahead from.taken from.state.0 start.at each) looked ∙ sym (whole (omega arith)),
           kept_by t part from to (way_of ahead (length part) last).gone last.event is (omega (arith, last_state, inside)) (omega arith) (omega arith) (λ e. omega arith)

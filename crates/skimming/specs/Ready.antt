@@ -1,6 +1,5 @@
 -- What holds before places are gone over, and what is kept. Assumes nothing: these are definitions.
 use Rattle.std.specs.Prelude.{◌≡◌, false, List, ℕ, ◌+◌, ◌-◌, ◌*◌, ◌≤◌, ◌<◌, length, get_or}
-use Rattle.tables.specs.Reads.{Whole}
 use Rattle.running.specs.Reads.{WholeRunning}
 use Rattle.gliding.specs.Glide.{Glide, GlideReady}
 use Rattle.seeking.specs.Foreseen.{Foreseen}
@@ -20,9 +19,8 @@ way_of ahead bytes looking = record {
   event = looking.event;
 }
 
--- Before places are gone over: the memories have their sizes, what was looked up are states, and the numbers are in range.
+-- Before places are gone over: the running memory has its size, what was looked up are states, and the numbers are in range.
 pub record LookReady (t m ahead : List ℕ) (from : Looking) : Type 0 where
-  pub tables : Whole t
   pub memory : WholeRunning m
   pub states : States ahead from.at from.left
   pub room : from.at + 4 * from.left < length ahead + 4

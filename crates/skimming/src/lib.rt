@@ -9,8 +9,9 @@ ghost use Rattle.skimming.specs.Look.{look_from};
 ghost use Rattle.skimming.specs.Ready.{look_of, LookReady, LookKept, WayReady, way_of, SkimReady};
 
 use counters::{Place, State};
-use gliding::Way;
+use gliding::{Way, Went};
 use running::layout::FLAG;
+use tables::Tables;
 
 mod infos; // infos.rt: the sum of what the infos of eight states say
 
@@ -38,18 +39,19 @@ struct Looking {
     left: usize,
     place: Place,
     gains: u64,
+    // Kept, no plainer: in `enum Looking { Event(Looked), On(Looked) }` both variants hold the same four values, and a caller takes them out of either in the same words.
     event: bool,
 }
 
 // One place more.
-fn one_more(t: &[u8], m: &[u8], ahead: &[u16], from: Looking) -> Looking
+fn one_more(t: &Tables, m: &[u8], ahead: &[u16], from: Looking) -> Looking
     requires { (LookReady t.now m.now ahead.now from) × (0 < from.left) }
     ensures { (look_from t.now m.now ahead.now (look_of result) ≡ look_from t.now m.now ahead.now (look_of from)) × (LookKept from result) × (result.left < from.left) }
 {
     let at = from.at;
     let state = State::numbered(ahead[at]);
     let place = from.place.next();
-    let gains = from.gains + lent::wide64(tables::gain(t, state));
+    let gains = from.gains + u64::from(t.gain(state));
     Looking {
         at: at + APART,
         left: from.left - 1,
@@ -59,22 +61,12 @@ fn one_more(t: &[u8], m: &[u8], ahead: &[u16], from: Looking) -> Looking
     }
 }
 
-// How many bytes are left after eight more, or after as many as there are.
-fn after_eight(left: usize) -> usize
-    ensures { result ≡ left - 8 }
-{
-    if left < EIGHT {
-        return 0;
-    }
-    left - EIGHT
-}
-
 // At most eight places, one after the other, until something happens.
-fn singly(t: &[u8], m: &[u8], ahead: &[u16], from: Looking) -> Looking
+fn singly(t: &Tables, m: &[u8], ahead: &[u16], from: Looking) -> Looking
     requires { (LookReady t.now m.now ahead.now from) × (0 < from.left) }
     ensures { (look_from t.now m.now ahead.now (look_of result) ≡ look_from t.now m.now ahead.now (look_of from)) × (LookKept from result) × (result.left < from.left) }
 {
-    let stop = after_eight(from.left);
+    let stop = from.left.saturating_sub(EIGHT);
     let mut looking = from;
     while stop < looking.left {
         looking = one_more(t, m, ahead, looking);
@@ -86,7 +78,7 @@ fn singly(t: &[u8], m: &[u8], ahead: &[u16], from: Looking) -> Looking
 }
 
 // Eight places at once, as long as nothing happens at any of them.
-fn by_eights(t: &[u8], m: &[u8], ahead: &[u16], from: Looking) -> Looking
+fn by_eights(t: &Tables, m: &[u8], ahead: &[u16], from: Looking) -> Looking
     requires { LookReady t.now m.now ahead.now from }
     ensures { (look_from t.now m.now ahead.now (look_of result) ≡ look_from t.now m.now ahead.now (look_of from)) × (LookKept from result) × (result.event ≡ false) }
 {
@@ -120,17 +112,20 @@ fn by_eights(t: &[u8], m: &[u8], ahead: &[u16], from: Looking) -> Looking
 }
 
 // The way to here, with the state of the last place that was gone over.
-fn way_to(ahead: &[u16], bytes: usize, looking: Looking) -> Way
+fn way_to(ahead: &[u16], bytes: usize, looking: Looking) -> Went
     requires { WayReady ahead.now bytes looking }
     ensures { glide_of result ≡ way_of ahead.now bytes looking }
 {
     let last = looking.at - APART;
     let place = looking.place;
-    Way {
+    let way = Way {
         state: State::numbered(ahead[last]),
         place,
         taken: bytes - looking.left,
         gains: looking.gains,
+    };
+    Went {
+        way,
         event: looking.event,
     }
 }
@@ -139,28 +134,24 @@ fn way_to(ahead: &[u16], bytes: usize, looking: Looking) -> Way
 // for it end; the first of them stands at k and is that of the byte first. The places behind one where something happened are taken one by
 // one, since there something often happens again.
 pub fn skim(
-    t: &[u8],
+    t: &Tables,
     m: &[u8],
     part: &[u8],
     ahead: &[u16],
     first: usize,
     k: usize,
     from: Way,
-) -> Way
+) -> Went
     requires { SkimReady t.now m.now part.now ahead.now first k from }
-    ensures { (glide_of result ≡ glide_in t.now m.now (drop from.taken part.now) (gone_by from)) × (GlideKept t.now part.now from result) × (result.state.0 ≡ after_from t.now part.now from.taken from.state.0 (result.taken - from.taken)) }
+    ensures { (glide_of result ≡ glide_in t.now m.now (drop from.taken part.now) (gone_by from)) × (GlideKept t.now part.now from result) × (result.way.state.0 ≡ after_from t.now part.now from.taken from.state.0 (result.way.taken - from.taken)) }
 {
-    let place = from.place;
     if part.len() <= from.taken {
-        let state = from.state;
-        return Way {
-            state,
-            place,
-            taken: from.taken,
-            gains: from.gains,
+        return Went {
+            way: from,
             event: false,
         };
     }
+    let place = from.place;
     let mut looking = Looking {
         at: APART * (from.taken - first) + k,
         left: part.len() - from.taken,

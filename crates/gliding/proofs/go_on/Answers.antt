@@ -13,7 +13,7 @@ returns-then-states-next c =
     let start = c.requires in
     let next = c.sought-next in (
       one_stray a.t.now a.m.now (gone_to a.from) a.byte a.states a.dense start.counted start.rows next.result next.ensures.0
-          _ c.next-place.ensures c.if-states-next.true _ _ _ c.is_quiet.result c.root.ensures (c.wide64.ensures.0 ∙ c.gain.ensures)
+          _ c.next-place.ensures c.if-states-next.true _ _ _ c.is_quiet.result c.root.ensures (c.from.ensures ∙ c.gain.ensures)
           c.root-then-states-next.ensures (sym c.is_quiet.ensures),
       record { inside = omega arith; place = c.next-place.ensures; taken = omega arith; few_gains = omega arith },
     )
@@ -26,7 +26,7 @@ returns-then-is_quiet c =
     let quiet = c.is_quiet-2 in
     let one = one_found a.t.now a.m.now (gone_to a.from) a.byte a.states a.dense start.counted start.rows next.result next.ensures.0
     _ c.next-place.ensures (omega (arith, c.if-states-next.false)) _ _ _ true c.state_at.ensures
-    (c.wide64-2.ensures.0 ∙ c.gain-2.ensures) c.state_at-2.ensures (sym quiet.ensures ∙ c.if-is_quiet.true) in (
+    (c.from-2.ensures ∙ c.gain-2.ensures) c.state_at-2.ensures (sym quiet.ensures ∙ c.if-is_quiet.true) in (
       one,
       record { inside = omega (arith, c.if-states-next.false); place = c.next-place.ensures; taken = omega arith; few_gains = omega arith },
     )
@@ -39,7 +39,7 @@ returns c =
     let quiet = c.is_quiet-2 in
     let one = one_found a.t.now a.m.now (gone_to a.from) a.byte a.states a.dense start.counted start.rows next.result next.ensures.0
     _ c.next-place.ensures (omega (arith, c.if-states-next.false)) _ _ _ false c.state_at.ensures
-    (c.wide64-2.ensures.0 ∙ c.gain-2.ensures) c.state_at-2.ensures (sym quiet.ensures ∙ c.if-is_quiet.false) in (
+    (c.from-2.ensures ∙ c.gain-2.ensures) c.state_at-2.ensures (sym quiet.ensures ∙ c.if-is_quiet.false) in (
       one,
       record { inside = omega (arith, c.if-states-next.false); place = c.next-place.ensures; taken = omega arith; few_gains = omega arith },
     )

@@ -7,7 +7,7 @@ use Rattle.skimming.proofs.singly.Goals as goal
 
 pub loop-looking-init : goal.loop-looking-init
 loop-looking-init c =
-    (c.after_eight-stop.ensures, c.requires.0.quiet, kept_still c.args.from, refl)
+    (c.saturating_sub-stop.ensures, c.requires.0.quiet, kept_still c.args.from, refl)
 
 pub one_more-looking-requires : goal.one_more-looking-requires
 one_more-looking-requires c =

@@ -1,6 +1,6 @@
 -- The code compares what the definition does.
 -- Assumes nothing.
-use mathlib.Core.Path.{ap₂, ◌∙◌}
+use mathlib.Core.Path.{ap₂}
 use Prim.Native.Nat.{ℕ}
 use lib.Dec.{leb}
 use Rattle.seeking.specs.Quick.{last_column}
@@ -9,4 +9,4 @@ use Rattle.ahead.proofs.room.columns_fit.Goals as goal
 
 pub returns : goal.returns
 unfolding columns_fit
-returns c = ap₂ (λ (last dense : ℕ). leb last (last_column dense)) (c.pair_size.ensures.0 ∙ c.farthest_column.ensures) c.dense.ensures.0
+returns c = ap₂ (λ (last dense : ℕ). leb last (last_column dense)) c.farthest_column.ensures c.dense.ensures.0

@@ -12,7 +12,7 @@ returns-then-part-lt-SHORTEST c = record { all = sym (ahead_short _ _ _ _ (omega
 pub columns_fit-requires : goal.columns_fit-requires
 columns_fit-requires c =
     let ready = c.requires.ready in
-    (ready.tables, ready.states, ready.few_dense)
+    (ready.states, ready.few_dense)
 
 pub returns-then-not-columns_fit : goal.returns-then-not-columns_fit
 returns-then-not-columns_fit c =

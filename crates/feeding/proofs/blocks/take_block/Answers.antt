@@ -8,7 +8,6 @@ look_ahead-requires c =
     let pre = c.requires in
     let on = pre.blocks.on in
     record {
-      tables = on.ready.tables;
       few_states = on.ready.states;
       some_dense = on.ready.some_dense;
       few_dense = on.ready.few_dense;

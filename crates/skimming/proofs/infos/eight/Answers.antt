@@ -1,20 +1,21 @@
--- The sum of the first half, and of the second.
+-- After so many turns it is the sum of so many.
 -- Assumes nothing.
+use mathlib.Core.Path.{refl, ◌∙◌}
 use native.Mathlib.Omega.{arith}
-use Rattle.skimming.proofs.Eights.{infos_add, first_half, second_half}
+use Rattle.skimming.specs.Infos.{infos_in}
+use Rattle.skimming.proofs.Eights.{infos_more}
 use Rattle.skimming.proofs.infos.eight.Goals as goal
 
-pub four-requires : goal.four-requires
-four-requires c =
-    let a = c.args in
-    first_half a.t.now a.ahead.now 4 4 a.at c.requires
+pub loop-i-init : goal.loop-i-init
+unfolding infos_in
+loop-i-init c = (refl, omega arith)
 
-pub four-requires-2 : goal.four-requires-2
-four-requires-2 c =
-    let a = c.args in
-    second_half a.t.now a.ahead.now 4 4 a.at _ (omega arith) c.requires
+pub info-requires : goal.info-requires
+info-requires c =
+    let next = c.requires.states c.loop-i.i c.loop-i-test.true in
+    omega (arith, next, c.numbered.ensures)
 
-pub returns : goal.returns
-returns c =
+pub loop-i-preserved : goal.loop-i-preserved
+loop-i-preserved c =
     let a = c.args in
-    (omega (arith, infos_add a.t.now a.ahead.now 4 4 a.at, c.four.ensures.0, c.four-2.ensures.0), omega (arith, c.four.ensures.1, c.four-2.ensures.1))
+    (infos_more a.t.now a.ahead.now a.at c.loop-i.i _ _ c.loop-i.invariant.0 (c.from-sum.ensures ∙ c.info.ensures) c.numbered.ensures, omega (arith, c.from-sum.ensures, c.loop-i.invariant.1))
