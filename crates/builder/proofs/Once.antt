@@ -16,27 +16,34 @@ use Rattle.records.specs.Refusals.{reason_of, refusal_for}
 use Rattle.records.proofs.Names.{reason_back}
 use Rattle.tables.specs.Layout.{tables_size, tables_layout}
 use Rattle.tables.proofs.Once.{laid_once, tables_tiled}
-use Rattle.builder.specs.declared.answers.Built.{Built}
-use Rattle.builder.specs.declared.answers.Built.TheVariants.{Done, TooSmall, Refused}
-use Rattle.builder.specs.Answers.{Said, said_by, said_of}
+use Rattle.std.specs.Prelude.{Ok, Err}
+use Rattle.builder.specs.declared.answers.BuildError.{BuildError}
+use Rattle.builder.specs.declared.answers.BuildError.TheVariants.{TooSmall, Refused}
+use Rattle.builder.specs.Answers.{Built, Said, said_by, said_of}
 use Rattle.builder.specs.Build.{Outcome, outcome, Holds, Judged, BuildMeant, BuiltRight}
 
 -- ── Answers ──
 
+-- A refusal of build never says 0.
+pub refused_number : (why : BuildError) → (said_by (Err why)).number ≡ 0 → ⊥
+unfolding said_by
+refused_number TooSmall e = omega arith
+refused_number (Refused told) e = omega (arith, number_range (reason_of told.why))
+
 -- No two answers of build say the same number and offset.
 pub said_once : (a b : Built) → said_by a ≡ said_by b → a ≡ b
 unfolding said_by
-said_once (Done n) (Done m) e = ap Done (ap (λ (s : Said). s.offset) e)
-said_once (Done n) TooSmall e = absurd (omega (arith, ap (λ (s : Said). s.number) e))
-said_once (Done n) (Refused why at) e = absurd (omega (arith, ap (λ (s : Said). s.number) e, number_range (reason_of why)))
-said_once TooSmall (Done m) e = absurd (omega (arith, ap (λ (s : Said). s.number) e))
-said_once TooSmall TooSmall e = refl
-said_once TooSmall (Refused why at) e = absurd (omega (arith, ap (λ (s : Said). s.number) e, number_range (reason_of why)))
-said_once (Refused why at) (Done m) e = absurd (omega (arith, ap (λ (s : Said). s.number) e, number_range (reason_of why)))
-said_once (Refused why at) TooSmall e = absurd (omega (arith, ap (λ (s : Said). s.number) e, number_range (reason_of why)))
-said_once (Refused why at) (Refused other there) e =
-    let same : reason_of why ≡ reason_of other = number_once (reason_of why) (reason_of other) (ap (λ (s : Said). s.number) e) in
-    ap₂ Refused (sym (reason_back why) ∙ ap refusal_for same ∙ reason_back other) (ap (λ (s : Said). s.offset) e)
+said_once (Ok n) (Ok m) e = ap Ok (ap (λ (s : Said). s.offset) e)
+said_once (Ok n) (Err TooSmall) e = absurd (omega (arith, ap (λ (s : Said). s.number) e))
+said_once (Ok n) (Err (Refused told)) e = absurd (omega (arith, ap (λ (s : Said). s.number) e, number_range (reason_of told.why)))
+said_once (Err TooSmall) (Ok m) e = absurd (omega (arith, ap (λ (s : Said). s.number) e))
+said_once (Err TooSmall) (Err TooSmall) e = refl
+said_once (Err TooSmall) (Err (Refused told)) e = absurd (omega (arith, ap (λ (s : Said). s.number) e, number_range (reason_of told.why)))
+said_once (Err (Refused told)) (Ok m) e = absurd (omega (arith, ap (λ (s : Said). s.number) e, number_range (reason_of told.why)))
+said_once (Err (Refused told)) (Err TooSmall) e = absurd (omega (arith, ap (λ (s : Said). s.number) e, number_range (reason_of told.why)))
+said_once (Err (Refused told)) (Err (Refused other)) e =
+    let same : reason_of told.why ≡ reason_of other.why = number_once (reason_of told.why) (reason_of other.why) (ap (λ (s : Said). s.number) e) in
+    ap₂ {C = Built} (λ why at. Err (Refused (record { why = why; at = at }))) (sym (reason_back told.why) ∙ ap refusal_for same ∙ reason_back other.why) (ap (λ (s : Said). s.offset) e)
 
 -- ── Memory ──
 

@@ -5,13 +5,15 @@ use mathlib.Core.Logic.{inl}
 use mathlib.Core.List.{List}
 use Prim.Native.Nat.{ℕ, ◌≤◌, ◌<◌}
 use native.Mathlib.Omega.{arith}
-use lib.ListN.{length, replicate, length-replicate}
+use lib.ListN.{length, take, replicate, length-replicate}
 use Rattle.lent.specs.Numbers.{Bytes}
 use Rattle.meaning.specs.Books.{Book}
 use Rattle.format.proofs.Accepted.{written_long}
 use Rattle.tables.specs.Layout.{room_for_pieces, room_for_phrases, mark_from}
 use Rattle.tables.proofs.Fits.{fits}
 use Rattle.survey.specs.declared.Surveyed.{Surveyed}
+use Rattle.survey.specs.declared.stretch.Stretch.{Stretch}
+use Rattle.survey.specs.Stretches.{nowhere}
 use Rattle.survey.specs.Turns.{Notes, noted}
 use Rattle.survey.specs.Survey.{SurveyExact}
 use Rattle.survey.specs.Meant.{Blank, SurveyMeant}
@@ -21,7 +23,7 @@ use Rattle.builder.proofs.Given.{notes_give}
 
 -- What the survey is lent.
 abbrev pub unread : List ℕ → Notes
-unread blank = noted blank (replicate room_for_pieces 0) (replicate room_for_pieces 0)
+unread blank = noted blank (replicate room_for_pieces nowhere)
 
 module _ (book : Book) (bytes blank : List ℕ) (each : Bytes bytes) (fresh : Fresh book bytes blank) where
   -- No accepted book is longer than 10,245 bytes.
@@ -32,15 +34,14 @@ module _ (book : Book) (bytes blank : List ℕ) (each : Bytes bytes) (fresh : Fr
   unread_blank = record {
     whole = fresh.whole;
     zero = λ k a b. fresh.zeros k (omega arith) b;
-    offsets = length-replicate {A = ℕ} room_for_pieces 0;
-    lengths = length-replicate {A = ℕ} room_for_pieces 0;
+    words = length-replicate {A = Stretch} room_for_pieces nowhere;
   }
 
   module _ (answer : Surveyed) (after : Notes) (exact : SurveyExact bytes (unread blank) answer after) where
     pub reread_meant : SurveyMeant book bytes (unread blank) answer after
     reread_meant = survey_meant book bytes (unread blank) unread_blank fresh.accepted exact
 
-    pub reread_readied : Readied book bytes answer.pieces after
+    pub reread_readied : Readied book bytes (noted after.tables (take answer.pieces after.words))
     reread_readied = record {
       within = fresh.accepted.within;
       gives = notes_give book bytes each fresh.accepted (unread blank) answer after reread_meant;
@@ -56,7 +57,7 @@ module _ (book : Book) (bytes blank : List ℕ) (each : Bytes bytes) (fresh : Fr
 
 -- The passes one after the other, each as it is defined, make the tables.
 pub passes_are : (bytes blank : List ℕ) (answer : Surveyed) (after : Notes) → SurveyExact bytes (unread blank) answer after
-    → (states : ℕ) (t : List ℕ) → StatesExact bytes answer.pieces after states t
+    → (states : ℕ) (t : List ℕ) → StatesExact bytes (noted after.tables (take answer.pieces after.words)) states t
     → (rowed : List ℕ) → rowed ≡ rows_by states t
     → (mark : ℕ) → mark ≡ mark_from 0 bytes
     → with_header states answer.pieces answer.phrases mark rowed ≡ tables_from bytes blank

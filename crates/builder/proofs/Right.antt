@@ -17,9 +17,9 @@ use Rattle.format.proofs.Theorem.{judged_judges}
 use Rattle.records.proofs.Bytes.{all_bytes}
 use Rattle.records.proofs.Names.{refusal_said}
 use Rattle.tables.specs.Layout.{tables_size}
-use Rattle.builder.specs.declared.answers.Built.{Built}
-use Rattle.builder.specs.declared.answers.Built.TheVariants.{TooSmall}
-use Rattle.builder.specs.Answers.{said, said_by, said_of}
+use Rattle.std.specs.Prelude.{Err}
+use Rattle.builder.specs.declared.answers.BuildError.TheVariants.{TooSmall}
+use Rattle.builder.specs.Answers.{Built, said, said_by, said_of}
 use Rattle.builder.specs.Passes.{Fresh}
 use Rattle.builder.specs.Build.{Outcome, outcome, blank_of, outcome_of, build_of, Holds, Judged, BuildMeant, BuiltRight}
 use Rattle.builder.proofs.Filled.{tables_long, tables_past, tables_laid}
@@ -76,7 +76,7 @@ module _ (bytes before : List ℕ) (each : Bytes bytes) (large : tables_size ≤
 -- ── For all that can be lent ──
 
 module _ (bytes before : List ℕ) where
-  pub build_small : length before < tables_size → build_of bytes before ≡ outcome TooSmall before
+  pub build_small : length before < tables_size → build_of bytes before ≡ outcome (Err TooSmall) before
   unfolding build_of
   build_small l = rw (lt-ltb (length before) tables_size l)
 

@@ -4,7 +4,7 @@ use mathlib.Core.Path.{◌≡◌, ap, ◌∙◌}
 use mathlib.Core.List.{List}
 use Prim.Native.Nat.{ℕ, ◌≤◌, ◌<◌}
 use native.Mathlib.Omega.{arith}
-use lib.ListN.{get_or}
+use lib.ListN.{length, get_or}
 use Rattle.meaning.specs.Books.{Book}
 use Rattle.format.specs.Limits.{most_prefixes}
 use Rattle.format.specs.Prefixes.{prefix_count}
@@ -29,49 +29,49 @@ use Rattle.linking.proofs.Pieces.{given_count, piece_states}
 use Rattle.endings.specs.Filled.{filled}
 use Rattle.builder.specs.Passes.{Readied, StatesExact, numbered_by, linked_by, found_by, states_by}
 
-module _ (book : Book) (bytes : List ℕ) (pieces : ℕ) (notes : Notes) (ready : Readied book bytes pieces notes) where
+module _ (book : Book) (bytes : List ℕ) (notes : Notes) (ready : Readied book bytes notes) where
   room : state_count book ≤ room_for_states
   room = (fits book ready.within).states
 
   -- ── What the numbering asks and answers ──
 
-  pub few_prefixes : prefix_count (keywords_in bytes notes.offsets notes.lengths pieces) ≤ most_prefixes
+  pub few_prefixes : prefix_count (keywords_in bytes notes.words) ≤ most_prefixes
   few_prefixes = rw ready.gives.all ready.within.counts.prefixes
 
-  pub count_is : (numbered_by bytes pieces notes).states ≡ state_count book
-  count_is = count_filled bytes notes.offsets notes.lengths pieces book ready.gives room notes.tables ready.whole
+  pub count_is : (numbered_by bytes notes).states ≡ state_count book
+  count_is = count_filled bytes notes.words book ready.gives room notes.tables ready.whole
 
-  pub count_room : (numbered_by bytes pieces notes).states ≤ room_for_states
+  pub count_room : (numbered_by bytes notes).states ≤ room_for_states
   count_room = omega (arith, count_is, room)
 
-  pub count_positive : 0 < (numbered_by bytes pieces notes).states
+  pub count_positive : 0 < (numbered_by bytes notes).states
   count_positive = omega (arith, count_is, count_some book)
 
   -- ── What is there once the failures are linked ──
 
-  pub states_linked : Filled book notes.tables (linked_by bytes pieces notes)
+  pub states_linked : Filled book notes.tables (linked_by bytes notes)
   unfolding linked_by
-  states_linked = linking.filled bytes notes.offsets notes.lengths pieces book ready.gives room notes.tables ready.whole ready.zeros
+  states_linked = linking.filled bytes notes.words book ready.gives room notes.tables ready.whole ready.zeros
 
-  pub fail_linked : (i : ℕ) → i < state_count book → fail_in (linked_by bytes pieces notes) i ≡ failure_in book i
+  pub fail_linked : (i : ℕ) → i < state_count book → fail_in (linked_by bytes notes) i ≡ failure_in book i
   unfolding HoldsFailures
-  fail_linked = failures_held book room notes.tables (linked_by bytes pieces notes) states_linked
+  fail_linked = failures_held book room notes.tables (linked_by bytes notes) states_linked
 
   -- There are as many keywords as pieces, and for each the state is found that its piece ends in.
-  pub pieces_is : pieces ≡ spot_count book
-  pieces_is = given_count bytes notes.offsets notes.lengths pieces book ready.gives
+  pub pieces_is : length notes.words ≡ spot_count book
+  pieces_is = given_count bytes notes.words book ready.gives
 
-  pub found_keyword : (p : ℕ) → p < spot_count book → get_or (found_by bytes pieces notes) p 0 ≡ number_in book (keyword_of book p)
+  pub found_keyword : (p : ℕ) → p < spot_count book → get_or (found_by bytes notes) p 0 ≡ number_in book (keyword_of book p)
   unfolding found_by
   found_keyword p l =
-      ap (λ (n : ℕ). get_or (keyword_states (linked_by bytes pieces notes) n bytes notes.offsets notes.lengths pieces) p 0) count_is
-      ∙ piece_states bytes notes.offsets notes.lengths pieces book ready.gives (linked_by bytes pieces notes)
-      (states_held book room notes.tables (linked_by bytes pieces notes) states_linked) p l
+      ap (λ (n : ℕ). get_or (keyword_states (linked_by bytes notes) n bytes notes.words (length notes.words)) p 0) count_is
+      ∙ piece_states bytes notes.words book ready.gives (linked_by bytes notes)
+      (states_held book room notes.tables (linked_by bytes notes) states_linked) p l
 
   -- The passes one after the other, each as it is defined.
-  pub states_exact : (states : ℕ) (numbers links at after : List ℕ) → states ≡ (numbered_by bytes pieces notes).states → numbers ≡ closed (numbered_by bytes pieces notes)
-      → links ≡ linked numbers states → at ≡ keyword_states links states bytes notes.offsets notes.lengths pieces → after ≡ filled at states pieces links
-      → StatesExact bytes pieces notes states after
+  pub states_exact : (states : ℕ) (numbers links at after : List ℕ) → states ≡ (numbered_by bytes notes).states → numbers ≡ closed (numbered_by bytes notes)
+      → links ≡ linked numbers states → at ≡ keyword_states links states bytes notes.words (length notes.words) → after ≡ filled at states (length notes.words) links
+      → StatesExact bytes notes states after
   unfolding states_by found_by linked_by
   states_exact states numbers links at after counted first second third fourth = record {
     count = counted;

@@ -1,10 +1,14 @@
 -- What build's answer says, in document 01's terms. Assumes nothing: these are definitions.
-use Rattle.std.specs.Prelude.{ℕ}
+use Rattle.std.specs.Prelude.{ℕ, Result, Ok, Err}
 use Rattle.format.specs.Refusals.{refusal_number}
 use Rattle.format.specs.Judged.{Judgement, accepted, refused}
 use Rattle.records.specs.Refusals.{reason_of}
-use Rattle.builder.specs.declared.answers.Built.{Built}
-use Rattle.builder.specs.declared.answers.Built.TheVariants.{Done, TooSmall, Refused}
+use Rattle.builder.specs.declared.answers.BuildError.{BuildError}
+use Rattle.builder.specs.declared.answers.BuildError.TheVariants.{TooSmall, Refused}
+
+-- What build answers: the length of the book that is built, or why it is refused.
+abbrev pub Built : Type 0
+Built = Result ℕ BuildError
 
 -- Document 01's answer: a number and an offset.
 pub record Said : Type 0 where
@@ -18,9 +22,9 @@ said number offset = record { number = number; offset = offset }
 -- else the number of the refusal and the offset of the record.
 unfoldable pub said_by : Built → Said
 unfolding refusal_number reason_of
-said_by (Done length) = said 0 length
-said_by TooSmall = said 1 0
-said_by (Refused why at) = said (refusal_number (reason_of why)) at
+said_by (Ok length) = said 0 length
+said_by (Err TooSmall) = said 1 0
+said_by (Err (Refused told)) = said (refusal_number (reason_of told.why)) told.at
 
 -- Those of a judgement.
 unfoldable pub said_of : Judgement → Said

@@ -1,14 +1,13 @@
 -- What build answers and leaves, for all that it can be lent: as the code does it, and in document 01's terms.
 -- Assumes nothing: these are definitions.
-use Rattle.std.specs.Prelude.{◌≡◌, cond, List, ℕ, ◌≤◌, ◌<◌, ltb, length, get_or}
+use Rattle.std.specs.Prelude.{◌≡◌, cond, List, ℕ, ◌≤◌, ◌<◌, ltb, length, get_or, Ok, Err}
 use Rattle.lent.specs.Zeros.{Zero, with_zeros}
 use Rattle.format.specs.Judged.{Judgement, accepted, refused, judged, Judges}
 use Rattle.records.specs.Refusals.{refusal_for}
 use Rattle.tables.specs.Regions.{Laid}
 use Rattle.tables.specs.Layout.{tables_size, tables_layout}
-use Rattle.builder.specs.declared.answers.Built.{Built}
-use Rattle.builder.specs.declared.answers.Built.TheVariants.{Done, TooSmall, Refused}
-use Rattle.builder.specs.Answers.{said, said_by, said_of}
+use Rattle.builder.specs.declared.answers.BuildError.TheVariants.{TooSmall, Refused}
+use Rattle.builder.specs.Answers.{Built, said, said_by, said_of}
 use Rattle.builder.specs.Passes.{tables_from}
 
 -- ── As the code does it ──
@@ -27,12 +26,12 @@ blank_of tables = with_zeros tables 0 tables_size
 
 -- What a judgement of the book leads to, in cleared memory.
 unfoldable pub outcome_of : List ℕ → List ℕ → Judgement → Outcome
-outcome_of bytes blank (accepted book offset) = outcome (Done offset) (tables_from bytes blank)
-outcome_of bytes blank (refused why offset) = outcome (Refused (refusal_for why) offset) blank
+outcome_of bytes blank (accepted book offset) = outcome (Ok offset) (tables_from bytes blank)
+outcome_of bytes blank (refused why offset) = outcome (Err (Refused (record { why = refusal_for why; at = offset }))) blank
 
 -- Too small memory is left as it is; any other is cleared, and then the book is judged.
 unfoldable pub build_of : List ℕ → List ℕ → Outcome
-build_of bytes tables = cond (ltb (length tables) tables_size) (outcome TooSmall tables) (outcome_of bytes (blank_of tables) (judged bytes))
+build_of bytes tables = cond (ltb (length tables) tables_size) (outcome (Err TooSmall) tables) (outcome_of bytes (blank_of tables) (judged bytes))
 
 -- ── What it means ──
 

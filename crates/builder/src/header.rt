@@ -6,6 +6,7 @@ ghost use Rattle.builder.specs.Passes.{with_header};
 
 use tables::layout::{MARK, PHRASES, PIECES, STATES, TABLES_TAG, TAG};
 
+// Kept, no plainer: with `struct Filled<'a> { bytes: &'a mut [u8] }` each method would need one clause more: that the borrow keeps its ghost name.
 // Writes the head. The tag comes last: tables have it only when they are whole.
 pub fn put_header(t: &mut [u8], states: usize, pieces: usize, phrases: usize, mark: u64)
     requires whole { Whole t.old }

@@ -7,26 +7,21 @@ ghost use Rattle.survey.specs.Turns.{noted};
 ghost use Rattle.builder.specs.Passes.{Fresh, Readied, StatesExact, rows_by, tables_from};
 
 use crate::header::put_header;
-use filling::number_states;
+use filling::{Keywords, number_states};
 use linking::{keyword_states, link_failures};
-use survey::{mark_of, survey};
-use tables::layout::ROOM_FOR_PIECES;
+use survey::{KEYWORDS, Stretch, mark_of, survey};
+use tables::Tables;
 
+// Kept, no plainer: with `struct Filled<'a> { bytes: &'a mut [u8] }` each method would need one clause more: that the borrow keeps its ghost name.
 // The states of the keywords get their numbers, their failures, and the pieces that end in them. Answers how many states there are.
-fn fill_states(
-    book: &[u8],
-    t: &mut [u8],
-    offsets: &[u16; ROOM_FOR_PIECES],
-    lengths: &[u8; ROOM_FOR_PIECES],
-    pieces: usize,
-) -> usize
-    requires { (sound : Book) × Readied sound book.now pieces (noted t.old offsets.now lengths.now) }
-    ensures { StatesExact book.now pieces (noted t.old offsets.now lengths.now) result t.new }
+fn fill_states(t: &mut [u8], keywords: Keywords) -> usize
+    requires { (sound : Book) × Readied sound keywords.book.now (noted t.old keywords.words.now) }
+    ensures { StatesExact keywords.entry.book.now (noted t.old keywords.entry.words.now) result t.new }
 {
-    let states = number_states(t, book, offsets, lengths, pieces);
+    let states = number_states(t, keywords);
     link_failures(t, states);
-    let at = keyword_states(t, states, book, offsets, lengths, pieces);
-    endings::fill(t, &at, states, pieces);
+    let at = keyword_states(&Tables::of(t), states, keywords);
+    endings::fill(t, &at, states, keywords.words.len());
     states
 }
 
@@ -45,11 +40,13 @@ pub fn fill(book: &[u8], t: &mut [u8])
     requires { (sound : Book) × Fresh sound book.now t.old }
     ensures { t.new ≡ tables_from book.now t.old }
 {
-    let mut offsets = [0u16; ROOM_FOR_PIECES];
-    let mut lengths = [0u8; ROOM_FOR_PIECES];
-    let surveyed = survey(book, t, &mut offsets, &mut lengths);
-    let pieces = surveyed.pieces;
-    let states = fill_states(book, t, &offsets, &lengths, pieces);
+    let mut words = [Stretch::NOWHERE; KEYWORDS];
+    let surveyed = survey(book, t, &mut words);
+    let keywords = Keywords {
+        book,
+        words: &words[..surveyed.pieces],
+    };
+    let states = fill_states(t, keywords);
     fill_rows(t, states);
-    put_header(t, states, pieces, surveyed.phrases, mark_of(book));
+    put_header(t, states, surveyed.pieces, surveyed.phrases, mark_of(book));
 }

@@ -9,8 +9,7 @@ use native.Mathlib.Omega.{arith}
 use Rattle.meaning.specs.Books.{Book}
 use Rattle.format.specs.Judged.{accepted, judged}
 use Rattle.tables.specs.Passing.{tables_pass}
-use Rattle.builder.specs.declared.answers.Built.{Built}
-use Rattle.builder.specs.Answers.{said_by}
+use Rattle.builder.specs.Answers.{Built, said_by}
 use Rattle.builder.specs.Build.{BuiltRight}
 use Rattle.scanner.specs.Exact.{BeginEnd}
 use Rattle.scanner.specs.Meant.{TablesOf, BeginDone, FeedRefused}

@@ -14,9 +14,9 @@ use Rattle.format.specs.Judged.{Judgement, accepted, judged, Judges}
 use Rattle.format.proofs.Theorem.{judges_judged}
 use Rattle.tables.specs.Layout.{tables_size}
 use Rattle.tables.specs.Passing.{tables_pass}
-use Rattle.builder.specs.declared.answers.Built.{Built}
-use Rattle.builder.specs.declared.answers.Built.TheVariants.{Done, TooSmall, Refused}
-use Rattle.builder.specs.Answers.{Said, said, said_by, said_of}
+use Rattle.std.specs.Prelude.{Ok, Err}
+use Rattle.builder.specs.declared.answers.BuildError.TheVariants.{TooSmall, Refused}
+use Rattle.builder.specs.Answers.{Built, Said, said, said_by, said_of}
 use Rattle.builder.specs.Build.{Holds, Judged, BuiltRight}
 use Rattle.builder.proofs.Passed.{refused_fails}
 use Rattle.scanner.specs.Meant.{TablesOf}
@@ -40,9 +40,9 @@ module _ (bytes before : List ℕ) (answer : Built) (tables : List ℕ) (build :
     tables_fail = go answer build refused otherwise
       where
         go : (a : Built) → BuiltRight bytes before a tables → ((said_by a).number ≡ 0 → ⊥) → ((said_by a).number ≡ 1 → ⊥) → tables_pass tables ≡ false
-        go (Done n) right some other = absurd (some refl)
-        go TooSmall right some other = absurd (other refl)
-        go (Refused why at) right some other = refused_fails bytes before tables before_large why at right.meant
+        go (Ok n) right some other = absurd (some refl)
+        go (Err TooSmall) right some other = absurd (other refl)
+        go (Err (Refused told)) right some other = refused_fails bytes before tables before_large told right.meant
 
   -- ── Accepted ──
 

@@ -5,7 +5,7 @@ use Rattle.meaning.specs.Reports.{reports}
 use Rattle.meaning.specs.Automaton.{steps}
 use Rattle.running.specs.Layout.{running_size}
 use Rattle.tracking.specs.Reports.{in_room}
-use Rattle.builder.specs.declared.answers.Built.{Built}
+use Rattle.builder.specs.Answers.{Built}
 use Rattle.builder.specs.Answers as build
 use Rattle.scanner.specs.Answers.{begun_number, refusal, said}
 use Rattle.scanner.specs.Exact.{BeginEnd, FeedEnd}

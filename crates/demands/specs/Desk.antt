@@ -4,7 +4,7 @@ use Rattle.std.specs.Prelude.{List, [], ◌∷◌, ◌++◌, ℕ, ◌+◌, ◌*�
 use Rattle.lent.specs.Numbers.{Bytes}
 use Rattle.tables.specs.Layout.{tables_size}
 use Rattle.running.specs.Layout.{running_size}
-use Rattle.builder.specs.declared.answers.Built.{Built}
+use Rattle.builder.specs.Answers.{Built}
 use Rattle.builder.specs.Build.{BuiltRight}
 use Rattle.scanner.specs.Answers.{said}
 use Rattle.scanner.specs.Exact.{BeginEnd, FeedEnd}

@@ -1,12 +1,10 @@
 -- What a desk is answered: document 01's numbers of an answer that meets the call's own promise, and the memories that the promise has.
 -- Assumes nothing: these are definitions.
 use Rattle.std.specs.Prelude.{◌≡◌, List, ℕ}
-use Rattle.builder.specs.declared.answers.Built.{Built}
 use Rattle.builder.specs.Answers as build
+use Rattle.builder.specs.Answers.{Built}
 use Rattle.builder.specs.Build.{BuiltRight}
-use Rattle.scanner.specs.declared.Begun.{Begun}
-use Rattle.scanner.specs.declared.Fed.{Fed}
-use Rattle.scanner.specs.Answers.{begun_number, Said, said}
+use Rattle.scanner.specs.Answers.{Begun, Fed, begun_number, Said, said}
 use Rattle.scanner.specs.Promised.{BeginPromise, FeedPromise}
 use Rattle.desk.specs.declared.numbers.TsuvrankheBuilt.{TsuvrankheBuilt}
 use Rattle.desk.specs.declared.numbers.TsuvrankheFed.{TsuvrankheFed}

@@ -32,8 +32,7 @@ pub extern "C" fn tsuvrankhe_running_size() -> usize
 pub extern "C" fn tsuvrankhe_build(book: &[u8], tables: &mut [u8]) -> TsuvrankheBuilt
     ensures { BuildAnswers book.now tables.old (built_given result tables.new) }
 {
-    let answer = builder::build(book, tables);
-    numbers::of_built(answer)
+    TsuvrankheBuilt::from(builder::build(book, tables))
 }
 
 // A letter begins.
@@ -41,8 +40,7 @@ pub extern "C" fn tsuvrankhe_build(book: &[u8], tables: &mut [u8]) -> Tsuvrankhe
 pub extern "C" fn tsuvrankhe_begin(tables: &[u8], running: &mut [u8]) -> u32
     ensures { BeginAnswers tables.now running.old (record { number = result; memory = running.new }) }
 {
-    let answer = scanner::begin(tables, running);
-    numbers::of_begun(answer)
+    numbers::begun_number(scanner::begin(tables, running))
 }
 
 // A letter goes on with a part. The room's length is in numbers of 32 bits, two of which hold a report: the phrase number and the place.
@@ -55,6 +53,5 @@ pub extern "C" fn tsuvrankhe_feed(
 ) -> TsuvrankheFed
     ensures { FeedAnswers tables.now running.old part.now room.old (fed_given result running.new room.new) }
 {
-    let answer = scanner::feed(tables, running, part, room);
-    numbers::of_fed(answer)
+    TsuvrankheFed::from(scanner::feed(tables, running, part, room))
 }

@@ -1,13 +1,14 @@
 // Document 01's numbers of each answer.
 ghost use Rattle.std.specs.Prelude.{◌≡◌};
 ghost use Rattle.builder.specs.Answers.{said_by};
-ghost use Rattle.scanner.specs.Answers.{begun_number, refusal, said};
+ghost use Rattle.scanner.specs.Answers.{memory_number, feed_number, begun_number, said};
 ghost use Rattle.desk.specs.Answers.{built_said, fed_said};
 
-use builder::Built;
-use scanner::{Begun, Fed};
+use builder::BuildError;
+use scanner::{FeedError, MemoryError, Took};
 
 // What build answers: the number, and the offset of the record that it is about.
+// Kept, holds: the C interface, in which a number tells a refusal
 #[repr(C)]
 #[derive(Clone, Copy)]
 pub struct TsuvrankheBuilt {
@@ -16,6 +17,7 @@ pub struct TsuvrankheBuilt {
 }
 
 // What feed answers: the number, the bytes taken, the reports written and the failure steps.
+// Kept, holds: the C interface, in which a number tells a refusal
 #[repr(C)]
 #[derive(Clone, Copy)]
 pub struct TsuvrankheFed {
@@ -25,72 +27,68 @@ pub struct TsuvrankheFed {
     pub steps: u64,
 }
 
-fn wide(x: u8) -> u32
-    ensures { result ≡ x }
-{
-    x as u32
+impl From<Result<usize, BuildError>> for TsuvrankheBuilt {
+    ghost from_gives = { λ answer given. built_said given ≡ said_by answer };
+
+    fn from(answer: Result<usize, BuildError>) -> TsuvrankheBuilt {
+        let number = builder::number(answer);
+        let offset = builder::offset(answer);
+        TsuvrankheBuilt {
+            number: u32::from(number),
+            offset,
+        }
+    }
 }
 
-// The number and the offset of what build answers.
-pub fn of_built(answer: Built) -> TsuvrankheBuilt
-    ensures { built_said result ≡ said_by answer }
-{
-    let number = answer.number();
-    let offset = answer.offset();
-    TsuvrankheBuilt {
-        number: wide(number),
-        offset,
+impl From<Result<Took, FeedError>> for TsuvrankheFed {
+    ghost from_gives = { λ answer given. fed_said given ≡ said answer };
+
+    fn from(answer: Result<Took, FeedError>) -> TsuvrankheFed {
+        match answer {
+            Ok(took) => TsuvrankheFed {
+                number: 0,
+                taken: took.taken,
+                reports: took.reports,
+                steps: took.steps,
+            },
+            Err(why) => TsuvrankheFed {
+                number: feed_number(why),
+                taken: 0,
+                reports: 0,
+                steps: 0,
+            },
+        }
     }
 }
 
 // The number of what begin answers.
-pub fn of_begun(answer: Begun) -> u32
+// Kept, holds: the C interface, in which a number tells a refusal
+pub fn begun_number(answer: Result<(), MemoryError>) -> u32
     ensures { result ≡ begun_number answer }
 {
     match answer {
-        Begun::Done => 0,
-        Begun::TooSmall => 1,
-        Begun::NotPassed => 12,
+        Ok(()) => 0,
+        Err(why) => memory_number(why),
     }
 }
 
-// A feed that is done.
-fn took(bytes: usize, hits: usize, steps: u64) -> TsuvrankheFed
-    ensures { fed_said result ≡ said (Fed.Took bytes hits steps) }
+// The number of a refusal of the lent memories, by begin or feed.
+fn memory_number(why: MemoryError) -> u32
+    ensures { result ≡ memory_number why }
 {
-    TsuvrankheFed {
-        number: 0,
-        taken: bytes,
-        reports: hits,
-        steps,
+    match why {
+        MemoryError::TooSmall => 1,
+        MemoryError::NotPassed => 12,
     }
 }
 
-// A refused feed: nothing taken, nothing reported, no steps.
-fn refused(number: u32) -> TsuvrankheFed
-    ensures { fed_said result ≡ refusal number }
+// The number of a refused feed.
+fn feed_number(why: FeedError) -> u32
+    ensures { result ≡ feed_number why }
 {
-    TsuvrankheFed {
-        number,
-        taken: 0,
-        reports: 0,
-        steps: 0,
-    }
-}
-
-// The number and the counts of what feed answers.
-pub fn of_fed(answer: Fed) -> TsuvrankheFed
-    ensures { fed_said result ≡ said answer }
-{
-    match answer {
-        Fed::Took {
-            taken,
-            reports,
-            steps,
-        } => took(taken, reports, steps),
-        Fed::TooSmall => refused(1),
-        Fed::NotPassed => refused(12),
-        Fed::NoRoom => refused(10),
-        Fed::TooLong => refused(11),
+    match why {
+        FeedError::Memory(why) => memory_number(why),
+        FeedError::NoRoom => 10,
+        FeedError::TooLong => 11,
     }
 }

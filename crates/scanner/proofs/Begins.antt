@@ -19,7 +19,7 @@ use Rattle.window.proofs.Begun.{length_begun}
 use Rattle.tracking.specs.Head.{begun_with}
 use Rattle.window.proofs.Begin.{past_begin, bytes_begin}
 use Rattle.tracking.proofs.Head.{laid_begin}
-use Rattle.scanner.specs.Answers.{begun_number}
+use Rattle.scanner.specs.Answers.{memory_number, begun_number}
 use Rattle.scanner.specs.Exact.{BeginEnd, begin_of}
 use Rattle.scanner.specs.Meant.{TablesOf, PastKept, BeginDone}
 use Rattle.scanner.specs.Promised.{BeginPromise}
@@ -70,7 +70,7 @@ module _ (book : Book) (t m : List ℕ) (tables : TablesOf book t) (long : runni
 -- ── All that begin promises follows from what it does exactly ──
 
 pub begin_promised : (t m : List ℕ) (end : BeginEnd) → end ≡ begin_of t m → BeginPromise t m end
-unfolding begun_number
+unfolding memory_number begun_number
 begin_promised t m end e = rw e (record {
   exact = refl;
   small = λ h. rw (begin_small t m (small t m h)) (record { says = refl; memory_kept = refl });

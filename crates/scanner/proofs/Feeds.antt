@@ -35,12 +35,13 @@ use Rattle.tracking.proofs.Head.{laid_moved}
 use Rattle.feeding.specs.Taken.{Run, at_start, part_taken}
 use Rattle.feeding.specs.Right.{Stands, Came}
 use Rattle.feeding.proofs.Right.{part_right, steps_right}
-use Rattle.scanner.specs.Answers.{Said, said}
+use Rattle.scanner.specs.Answers.{memory_number, feed_number, Said, said}
 use Rattle.scanner.specs.Passing.{too_small, running_pass}
-use Rattle.scanner.specs.Exact.{FeedEnd, memory_after, took_from, feed_of}
+use Rattle.scanner.specs.Exact.{FeedEnd, feed_refused, memory_after, took_from, feed_of}
 use Rattle.scanner.specs.Meant.{TablesOf, RunningOf, PastKept, FeedDone, FeedRight}
 use Rattle.scanner.specs.Promised.{FeedPromise}
-use Rattle.scanner.specs.declared.Fed.TheVariants as answers
+use Rattle.scanner.specs.declared.refusals.MemoryError.TheVariants.{NotPassed}
+use Rattle.scanner.specs.declared.refusals.FeedError.TheVariants.{Memory}
 use Rattle.scanner.proofs.Passing.{small, large, passes}
 use Rattle.scanner.proofs.Rule.{rule_feed}
 use Rattle.scanner.proofs.Cases.{feed_small, feed_not_tables, feed_not_running, feed_no_room, feed_too_long, feed_takes}
@@ -183,7 +184,7 @@ module _ (book : Book) (x t m : List ℕ) (tables : TablesOf book t) (running : 
         (taken_right part room short)
 
     pub feed_means : FeedRight book x m part room (feed_of t m part room)
-    unfolding said
+    unfolding memory_number feed_number said
     feed_means = record {
       no_room = λ h. rw (feed_no_room t m part room large_enough tables_pass_lem running_pass_lem (rw phrases h)) (record { says = refl; memory_kept = refl; room_kept = refl });
       too_long = λ roomy h. rw (feed_too_long t m part room large_enough tables_pass_lem running_pass_lem (rw phrases roomy) (rw held.place (omega (arith, running.early))))
@@ -194,7 +195,7 @@ module _ (book : Book) (x t m : List ℕ) (tables : TablesOf book t) (running : 
 -- ── All that feed promises follows from what it does exactly ──
 
 pub feed_promised : (t m part room : List ℕ) (end : FeedEnd) → end ≡ feed_of t m part room → FeedPromise t m part room end
-unfolding said
+unfolding memory_number feed_number said
 feed_promised t m part room end e = rw e (record {
   exact = refl;
   small = λ h. rw (feed_small t m part room (small t m h)) (record { says = refl; memory_kept = refl; room_kept = refl });
@@ -204,7 +205,7 @@ feed_promised t m part room end e = rw e (record {
 })
   where
     refused : tables_size ≤ length t → running_size ≤ length m → (v : Bool) → tables_pass t ≡ v → (tables_pass t ≡ false) ⊎ (running_pass t m ≡ false)
-        → feed_of t m part room ≡ record { answer = answers.NotPassed; memory = m; room = room }
+        → feed_of t m part room ≡ feed_refused (Memory NotPassed) m room
     refused a b false p h = feed_not_tables t m part room (large t m a b) p
     refused a b true p (inl q) = feed_not_tables t m part room (large t m a b) q
     refused a b true p (inr q) = feed_not_running t m part room (large t m a b) p q

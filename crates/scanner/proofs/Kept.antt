@@ -39,12 +39,12 @@ use Rattle.window.proofs.WaitingRead.{byte_waiting}
 use Rattle.window.proofs.Slots.{byte_slot}
 use Rattle.feeding.specs.Taken.{Run, at_start, byte_taken, part_taken}
 use Rattle.feeding.specs.Ready.{Ready}
-use Rattle.scanner.specs.Answers.{begun_number}
+use Rattle.scanner.specs.Answers.{memory_number, begun_number}
 use Rattle.scanner.specs.Passing.{state_held, place_held, too_small, RunningPass, running_pass}
-use Rattle.scanner.specs.Exact.{begin_of, took_from, feed_of}
+use Rattle.scanner.specs.Exact.{begin_of, took_from, feed_of, Taking}
 use Rattle.scanner.proofs.Passing.{sizes, whole, passes, passed}
 use Rattle.scanner.proofs.Cases.{begin_small, begin_not_tables, begin_done}
-use Rattle.scanner.proofs.Rule.{Refused, Taking, feed_cases}
+use Rattle.scanner.proofs.Rule.{Refused, feed_cases}
 use Rattle.scanner.proofs.Begins.{length_begun_with}
 use Rattle.scanner.proofs.Feeds.{length_moved}
 
@@ -182,7 +182,7 @@ module _ (t m : List ℕ) (bytes : Bytes t) (is-large : too_small t m ≡ false)
 
 -- Running memory that begin leaves passes, with any tables that begin accepted.
 pub begun_passes : (t m : List ℕ) → Bytes t → begun_number (begin_of t m).answer ≡ 0 → So (running_pass t (begin_of t m).memory)
-unfolding begun_number
+unfolding memory_number begun_number
 begun_passes t m bytes done = at_size (too_small t m) refl
   where
     at_tables : too_small t m ≡ false → (v : Bool) → tables_pass t ≡ v → So (running_pass t (begin_of t m).memory)

@@ -15,26 +15,25 @@ use Rattle.meaning.specs.Books.{Book}
 use Rattle.meaning.specs.Calls.{largest_place, fed}
 use Rattle.running.specs.Layout.{running_size}
 use Rattle.running.proofs.Held.{running_once}
-use Rattle.scanner.specs.Answers.{begun_number, Said, said}
+use Rattle.std.specs.Prelude.{Ok, Err}
+use Rattle.scanner.specs.Answers.{Begun, Fed, took, memory_number, feed_number, begun_number, Said, said}
 use Rattle.scanner.specs.Exact.{BeginEnd, FeedEnd}
 use Rattle.scanner.specs.Meant.{RunningOf, PastKept, BeginDone, FeedRefused, FeedDone, FeedRight}
 use Rattle.scanner.specs.Promised.{BeginPromise, FeedPromise}
-use Rattle.scanner.specs.declared.Begun.{Begun}
-use Rattle.scanner.specs.declared.Begun.TheVariants as begun
-use Rattle.scanner.specs.declared.Fed.{Fed}
-use Rattle.scanner.specs.declared.Fed.TheVariants as answers
+use Rattle.scanner.specs.declared.refusals.MemoryError.TheVariants.{TooSmall, NotPassed}
+use Rattle.scanner.specs.declared.refusals.FeedError.TheVariants.{Memory, NoRoom, TooLong}
 
 -- ── Two cases of an answer never say the same ──
 
 -- The case that says a number.
 begun_by : ℕ → Begun
-begun_by number = cond (eqb number 0) begun.Done (cond (eqb number 1) begun.TooSmall begun.NotPassed)
+begun_by number = cond (eqb number 0) (Ok tt) (cond (eqb number 1) (Err TooSmall) (Err NotPassed))
 
 begun_by_lem : (answer : Begun) → begun_by (begun_number answer) ≡ answer
-unfolding begun_number begun_by
-begun_by_lem begun.Done = refl
-begun_by_lem begun.TooSmall = refl
-begun_by_lem begun.NotPassed = refl
+unfolding memory_number begun_number begun_by
+begun_by_lem (Ok done) = refl
+begun_by_lem (Err TooSmall) = refl
+begun_by_lem (Err NotPassed) = refl
 
 pub begun_once : (first second : Begun) → begun_number first ≡ begun_number second → first ≡ second
 begun_once first second e = sym (begun_by_lem first) ∙ ap begun_by e ∙ begun_by_lem second
@@ -42,18 +41,18 @@ begun_once first second e = sym (begun_by_lem first) ∙ ap begun_by e ∙ begun
 -- The case that says these numbers.
 fed_by : Said → Fed
 fed_by says =
-    cond (eqb says.number 0) (answers.Took says.taken says.reports says.steps)
-    (cond (eqb says.number 1) answers.TooSmall
-    (cond (eqb says.number 12) answers.NotPassed
-    (cond (eqb says.number 10) answers.NoRoom answers.TooLong)))
+    cond (eqb says.number 0) (Ok (took says.taken says.reports says.steps))
+    (cond (eqb says.number 1) (Err (Memory TooSmall))
+    (cond (eqb says.number 12) (Err (Memory NotPassed))
+    (cond (eqb says.number 10) (Err NoRoom) (Err TooLong))))
 
 fed_by_lem : (answer : Fed) → fed_by (said answer) ≡ answer
-unfolding said fed_by
-fed_by_lem (answers.Took taken reports steps) = refl
-fed_by_lem answers.TooSmall = refl
-fed_by_lem answers.NotPassed = refl
-fed_by_lem answers.NoRoom = refl
-fed_by_lem answers.TooLong = refl
+unfolding memory_number feed_number said fed_by
+fed_by_lem (Ok came) = refl
+fed_by_lem (Err (Memory TooSmall)) = refl
+fed_by_lem (Err (Memory NotPassed)) = refl
+fed_by_lem (Err NoRoom) = refl
+fed_by_lem (Err TooLong) = refl
 
 pub fed_once : (first second : Fed) → said first ≡ said second → first ≡ second
 fed_once first second e = sym (fed_by_lem first) ∙ ap fed_by e ∙ fed_by_lem second

@@ -1,9 +1,10 @@
 -- The second reading notes what the passes over the states ask for, and all passes together are those of the definition.
 -- Assumes nothing.
-use mathlib.Core.Path.{◌∙◌}
+use mathlib.Core.Path.{sym, ◌∙◌}
 use Prim.Native.Nat.{ℕ, ◌<◌}
 use native.Mathlib.Omega.{arith}
 use lib.ListN.{get_or}
+use lib.Seq.{length-take-le}
 use Rattle.builder.proofs.Reread.{few_bytes, reread_readied, few_pieces, few_phrases, passes_are}
 use Rattle.builder.proofs.passes.fill.Goals as goal
 
@@ -12,6 +13,29 @@ survey-surveyed-requires c =
     let a = c.args in
     let each : (i : ℕ) → get_or a.book.now i 0 < 256 = λ i. omega (arith, c.type_inv.book i) in
     record { whole = c.requires.1.whole; book_len_bound = few_bytes c.requires.0 a.book.now a.t.now each c.requires.1 }
+
+pub slice_bounds-words-end : goal.slice_bounds-words-end
+slice_bounds-words-end c =
+    let read = c.survey-surveyed in
+    let a = c.args in
+    let each : (i : ℕ) → get_or a.book.now i 0 < 256 = λ i. omega (arith, c.type_inv.book i) in
+    omega (arith, few_pieces c.requires.0 a.book.now a.t.now each c.requires.1 read.result _ read.ensures)
+
+pub slice_bounds-keywords-end : goal.slice_bounds-keywords-end
+slice_bounds-keywords-end c =
+    let read = c.survey-surveyed in
+    let a = c.args in
+    let each : (i : ℕ) → get_or a.book.now i 0 < 256 = λ i. omega (arith, c.type_inv.book i) in
+    let few = few_pieces c.requires.0 a.book.now a.t.now each c.requires.1 read.result _ read.ensures in
+    sym (length-take-le read.result.pieces read.new.words (omega (arith, few)))
+
+pub invariant_of-keywords : goal.invariant_of-keywords
+invariant_of-keywords c =
+    let read = c.survey-surveyed in
+    let a = c.args in
+    let each : (i : ℕ) → get_or a.book.now i 0 < 256 = λ i. omega (arith, c.type_inv.book i) in
+    let ready = reread_readied c.requires.0 a.book.now a.t.now each c.requires.1 read.result _ read.ensures in
+    record { bytes = ready.gives.bytes; inside = ready.gives.inside }
 
 pub fill_states-states-requires : goal.fill_states-states-requires
 fill_states-states-requires c =
