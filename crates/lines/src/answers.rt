@@ -1,24 +1,24 @@
 // What opening a book and listing a part answer: whether the listing goes on, and where the lines end. Crate `parts` gives these answers.
+// An opened book answers where its line ends: it is accepted, and the lent memory is its own before the first byte.
 
-// Whether the letter may begin, and where the line of the book ends.
-#[derive(Clone, Copy)]
-pub enum Opened {
-    // the book is accepted, and the lent memory is its own before the first byte: the book line is written
-    Ready { end: usize },
-    // the book is refused, or the lent memory is: a refused book's line is written
-    Refused { end: usize },
+// The book is refused, or the lent memory is, and the letter may not begin: where the line ends that a refused book has.
+#[derive(Clone, Copy, Debug, PartialEq, Eq)]
+pub struct BookRefused {
+    pub end: usize,
 }
 
-// How a part went, and where its hit lines end.
-#[derive(Clone, Copy)]
-pub enum Listed {
-    // so many bytes of it were taken, with so many reports and failure steps
-    Took {
-        taken: usize,
-        hits: usize,
-        steps: u64,
-        end: usize,
-    },
+// So many bytes of a part were taken, with so many reports and failure steps, and its hit lines end here.
+#[derive(Clone, Copy, Debug, PartialEq, Eq)]
+pub struct Listed {
+    pub taken: usize,
+    pub hits: usize,
+    pub steps: u64,
+    pub end: usize,
+}
+
+// Why no byte of a part was taken.
+#[derive(Clone, Copy, Debug, PartialEq, Eq)]
+pub enum PartRefused {
     // the bytes already taken plus this part exceed the largest place
     TooLong,
     // the lent memory or room is refused, which is never so for memory that a book was opened in and room for every phrase

@@ -1,5 +1,6 @@
 // Lines one behind the other at the start of a lent buffer, each as crate `listing` words it: the hit lines of the reports that stand in the
 // room, and the last lines. Each function answers where its lines end.
+// Kept, no plainer: a writer that held `out` and its end needs, on each function, `self.new.out.ghost_name ≡ self.old.out.ghost_name` beside its lines.
 #![tactic(auto)]
 
 ghost use Rattle.std.specs.Prelude.{◌≡◌, ◌≤◌, length};
@@ -13,7 +14,7 @@ mod answers;
 mod hits;
 mod rights;
 
-pub use answers::{Listed, Opened};
+pub use answers::{BookRefused, Listed, PartRefused};
 pub use hits::put_hits;
 
 // Whether a letter had no hits.

@@ -1,13 +1,13 @@
 -- A line is written whole or not at all, by whether it fits; a text is written by storing the first byte of what is left of it.
 -- Assumes nothing.
 use mathlib.Core.Path.{◌≡◌, sym, ap, ap₂, ◌∙◌}
-use mathlib.Core.List.{List, ◌∷◌}
-use Prim.Native.Nat.{ℕ, ◌+◌, ◌≤◌, ◌<◌}
+use mathlib.Core.List.{List, [], ◌∷◌, ◌++◌, append_assoc}
+use Prim.Native.Nat.{ℕ, suc, ◌+◌, ◌≤◌, ◌<◌}
 use native.Mathlib.Nat.{zero-add}
 use native.Mathlib.Numerals.{add-one}
 use native.Mathlib.Omega.{arith}
-use lib.ListN.{length, get_or, set, take, drop, drop_of_length-le}
-use lib.Seq.{drop-cons, ext_get_or, get_or-take, length-take-le}
+use lib.ListN.{length, set, take, drop, length-set, take-append-drop}
+use lib.Seq.{ext_get_or, get_or-take, length-take-le, take-suc-set, drop-set-lt}
 use borrow.Author.Tests.{le-leb, lt-leb}
 use Rattle.lent.specs.Numbers.{with_bytes}
 use Rattle.lent.proofs.Bytes.{length_with_bytes, byte_written}
@@ -26,21 +26,21 @@ pub line_short : (out : List ℕ) (at : ℕ) (line : List ℕ) → length out < 
 unfolding with_line
 line_short out at line h = rw (lt-leb _ _ h)
 
--- One byte of a text is written, and the rest is what is left.
-pub one_byte
-    : (out text : List ℕ) (at i : ℕ)
-    → i < length text
-    → with_bytes out (at + i) (drop i text) ≡ with_bytes (set out (at + i) (get_or text i 0)) (at + (i + 1)) (drop (i + 1) text)
+-- A text that fits stands between the bytes before it and those behind it, which stay.
+pub text_between
+    : (out : List ℕ) (at : ℕ) (text : List ℕ)
+    → at + length text ≤ length out
+    → with_bytes out at text ≡ take at out ++ (text ++ drop (at + length text) out)
 unfolding with_bytes
-one_byte out text at i h =
-    let first : drop i text ≡ get_or text i 0 ∷ drop (i + 1) text = rw add-one (drop-cons text i 0 h) in
-    let behind : at + i + 1 ≡ at + (i + 1) = omega arith in
-    ap (with_bytes out (at + i)) first ∙ ap (λ (j : ℕ). with_bytes (set out (at + i) (get_or text i 0)) j (drop (i + 1) text)) behind
-
--- Past the last byte nothing is left.
-pub all_bytes : (out text : List ℕ) (at i : ℕ) → length text ≤ i → out ≡ with_bytes out (at + i) (drop i text)
-unfolding with_bytes
-all_bytes out text at i h = ap (with_bytes out (at + i)) (sym (drop_of_length-le text h))
+text_between out at [] h = sym (take-append-drop at out) ∙ ap (λ (k : ℕ). take at out ++ drop k out) (omega arith)
+text_between out at (byte ∷ text) h =
+    let stored : List ℕ = set out at byte in
+    let front : take (at + 1) stored ≡ take at out ++ byte ∷ [] = ap (λ (k : ℕ). take k stored) (add-one at) ∙ take-suc-set out at byte (omega arith) in
+    let behind : drop (at + 1 + length text) stored ≡ drop (at + suc (length text)) out
+    = drop-set-lt (at + 1 + length text) out at byte (omega arith) ∙ ap (λ (k : ℕ). drop k out) (omega arith) in
+    text_between stored (at + 1) text (rw length-set (omega arith))
+    ∙ ap₂ (λ (a b : List ℕ). a ++ (text ++ b)) front behind
+    ∙ append_assoc (take at out) (byte ∷ []) (text ++ drop (at + suc (length text)) out)
 
 -- A line written at the start of a list is the first bytes there.
 pub first_bytes

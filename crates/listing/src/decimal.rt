@@ -9,6 +9,7 @@ const ZERO: u8 = 48;
 // The base that numbers are written at.
 const TEN: u64 = 10;
 
+// Kept, holds: document 01 demands the digit writer that calls itself.
 // Writes a number from `at` on, and answers where its digits end. The digits before the last are those of a tenth of the number,
 // so they are written by the same function, first.
 pub(crate) fn write_number(out: &mut [u8], at: usize, n: u64) -> usize

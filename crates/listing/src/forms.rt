@@ -32,12 +32,9 @@ fn put_text(out: &mut [u8], at: usize, text: &[u8]) -> usize
     if out.len() - at < text.len() {
         return at;
     }
-    let mut i = 0;
-    while i < text.len() {
-        out[at + i] = text[i];
-        i += 1;
-    }
-    at + text.len()
+    let end = at + text.len();
+    out[at..end].copy_from_slice(text);
+    end
 }
 
 // Makes the line of a form with a number for each mark, and answers how long it is.
@@ -48,12 +45,9 @@ fn fill(line: &mut [u8], form: &[u8], numbers: &[u64]) -> usize
 {
     let mut end = 0;
     let mut k = 0;
-    let mut i = 0;
-    while i < form.len() {
-        let byte = form[i];
+    for &byte in form {
         end = show(line, end, byte, number_at(numbers, k));
         k = next_number(byte, k);
-        i += 1;
     }
     end
 }
@@ -86,8 +80,5 @@ fn next_number(byte: u8, k: usize) -> usize
 fn number_at(numbers: &[u64], k: usize) -> u64
     ensures { result ≡ get_or numbers.now k 0 }
 {
-    if k < numbers.len() {
-        return numbers[k];
-    }
-    0
+    numbers.get(k).copied().unwrap_or(0)
 }

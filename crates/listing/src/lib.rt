@@ -1,5 +1,6 @@
 // The lines of the listing, as bytes in a lent buffer. A line is written from `at` on, and the answer is where it ends. A line
 // that does not fit is not begun: the buffer stays as it was, and the answer is `at`.
+// Kept, no plainer: a writer that held `out` and `at` needs, on each function, `self.new.out.ghost_name ≡ self.old.out.ghost_name` beside its line.
 #![tactic(auto)]
 
 ghost use Rattle.std.specs.Prelude.{◌≡◌};
@@ -8,7 +9,6 @@ ghost use Rattle.listing.specs.Writing.{left, with_line};
 
 use counters::{Number, Place};
 use forms::put_line;
-use lent::pair64;
 
 mod decimal;
 mod forms;
@@ -40,7 +40,7 @@ pub fn hit_line(out: &mut [u8], at: usize, place: Place, number: Number, rights:
     ensures { left out.new result ≡ with_line out.old at (hit_line place.0 number.0 rights) }
 {
     let place = place.bytes();
-    let number = pair64(number.value());
+    let number = u64::from(number.value());
     put_line(
         out,
         at,

@@ -6,27 +6,24 @@ use std::fs::{File, Files};
 use std::io;
 use std::io::{ErrorKind, Read, Write};
 
-// What a name stands for: an open file, or a missing one, which can be neither read nor written.
+// What a name stands for: an open file, or none, which can be neither read nor written.
 #[derive(Drop)]
-enum Named<F> {
-    Open(F),
-    Missing,
-}
+struct Named<F>(Option<F>);
 
 impl<F: Read> Read for Named<F> {
     fn read(&mut self, buf: &mut [u8]) -> io::Result<usize> {
-        match self {
-            Named::Open(file) => file.read(buf),
-            Named::Missing => Err(io::Error::from(ErrorKind::NotFound)),
+        match &mut self.0 {
+            Some(file) => file.read(buf),
+            None => Err(io::Error::from(ErrorKind::NotFound)),
         }
     }
 }
 
 impl<F: Write> Write for Named<F> {
     fn write(&mut self, buf: &[u8]) -> io::Result<usize> {
-        match self {
-            Named::Open(file) => file.write(buf),
-            Named::Missing => Err(io::Error::from(ErrorKind::NotFound)),
+        match &mut self.0 {
+            Some(file) => file.write(buf),
+            None => Err(io::Error::from(ErrorKind::NotFound)),
         }
     }
 
@@ -36,10 +33,7 @@ impl<F: Write> Write for Named<F> {
 }
 
 fn opened<R: Files>(rt: &R, name: &str) -> Named<R::File> {
-    match File::open(rt, name) {
-        Ok(file) => Named::Open(file),
-        Err(_) => Named::Missing,
-    }
+    Named(File::open(rt, name).ok())
 }
 
 fn text(rt: &impl Print, words: &str) {
@@ -76,28 +70,38 @@ fn two<R: Files + Print>(rt: &R, book_name: &str, letter_name: &str) {
 
 // Document 01's letters, and how input can be cut.
 fn small<R: Files + Print>(rt: &R) {
-    listed(rt, "example");
-    listed(rt, "least_9_most_1");
-    listed(rt, "no_hit");
-    listed(rt, "empty_letter");
-    listed(rt, "cut_before_the_length");
-    listed(rt, "cut_in_the_length");
-    listed(rt, "cut_after_the_length");
-    listed(rt, "cut_in_the_book");
-    listed(rt, "cut_after_a_sound_book");
-    listed(rt, "longest_length");
+    let names = [
+        "example",
+        "least_9_most_1",
+        "no_hit",
+        "empty_letter",
+        "cut_before_the_length",
+        "cut_in_the_length",
+        "cut_after_the_length",
+        "cut_in_the_book",
+        "cut_after_a_sound_book",
+        "longest_length",
+    ];
+    for name in names {
+        listed(rt, name);
+    }
 }
 
 // Letters of several parts.
 fn long<R: Files + Print>(rt: &R) {
-    listed(rt, "keyword_across_4096");
-    listed(rt, "gap_across_4096");
-    listed(rt, "hits_around_4096");
-    listed(rt, "letter_4095");
-    listed(rt, "letter_4096");
-    listed(rt, "letter_4097");
-    listed(rt, "letter_8192");
-    listed(rt, "many_hits");
+    let names = [
+        "keyword_across_4096",
+        "gap_across_4096",
+        "hits_around_4096",
+        "letter_4095",
+        "letter_4096",
+        "letter_4097",
+        "letter_8192",
+        "many_hits",
+    ];
+    for name in names {
+        listed(rt, name);
+    }
 }
 
 // A folder can be opened and not read; a file that is not there can be neither read nor written.

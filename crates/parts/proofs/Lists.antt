@@ -1,7 +1,7 @@
 -- Each way through list_part is one case of its definition, by what feed answers; and the reports that feed says stand in the room.
 -- Assumes nothing.
 use mathlib.Core.Path.{◌≡◌, refl, sym, ap, subst, ◌∙◌}
-use mathlib.Core.Logic.{◌⊎◌, inl, inr, ⊎_elim}
+use mathlib.Core.Logic.{⊎_elim}
 use mathlib.Core.Bool.{Bool, true, false, cond}
 use mathlib.Core.List.{List, [], ◌∷◌}
 use Prim.Native.Nat.{ℕ, ◌+◌, ◌*◌, ◌/◌, ◌≤◌}
@@ -9,22 +9,23 @@ use native.Mathlib.Omega.{arith}
 use lib.Dec.{ltb}
 use lib.ListN.{length}
 use borrow.Author.Tests.{ltb-false}
+use Rattle.std.specs.Prelude.{Ok, Err}
 use Rattle.tables.specs.Layout.{room_for_phrases}
 use Rattle.tables.specs.Reads.{Whole, state_count_in, dense_in, phrase_count_in}
 use Rattle.seeking.specs.Quick.{quick_in}
 use Rattle.window.proofs.Happened.{happened_few}
 use Rattle.feeding.specs.Taken.{Run, at_start, byte_taken, free_after, part_taken}
-use Rattle.scanner.specs.Answers.{said}
+use Rattle.scanner.specs.declared.Took.{Took}
+use Rattle.scanner.specs.declared.refusals.FeedError.{FeedError}
+use Rattle.scanner.specs.Answers.{Fed, said}
 use Rattle.scanner.specs.Passing.{state_held, place_held}
-use Rattle.scanner.specs.Exact.{FeedEnd, took_from, feed_of}
-use Rattle.scanner.specs.declared.Fed.{Fed}
-use Rattle.scanner.specs.declared.Fed.TheVariants as fed
-use Rattle.scanner.proofs.Rule.{Refused, Taking, feed_cases, rule_feed}
+use Rattle.scanner.specs.Exact.{FeedEnd, took_from, feed_of, Taking}
+use Rattle.scanner.proofs.Rule.{Refused, feed_cases, rule_feed}
 use Rattle.listing.specs.Writing.{Left, left}
 use Rattle.lines.specs.Answers.{listed_taken, listed_end}
-use Rattle.lines.specs.declared.answers.Listed.TheVariants as listed
+use Rattle.lines.specs.declared.answers.PartRefused.{PartRefused}
 use Rattle.lines.proofs.Ends.{hits_inside}
-use Rattle.parts.specs.Exact.{ListEnd, took_answer, hits_of, took_with, listed_as, list_of}
+use Rattle.parts.specs.Exact.{ListEnd, took_answer, hits_of, took_with, part_refused, listed_as, list_of}
 
 -- ── What feed's answer is worth, whatever it was lent ──
 
@@ -50,10 +51,10 @@ pub record Told (t part room : List ℕ) (taken reports : ℕ) : Type 0 where
   pub offered : taken ≤ length part
   pub held : 2 * reports ≤ length room
 
-pub fed_told : (t m part room : List ℕ) (end : FeedEnd) → end ≡ feed_of t m part room → (taken reports steps : ℕ) → end.answer ≡ fed.Took taken reports steps
-    → Told t part room taken reports
+pub fed_told : (t m part room : List ℕ) (end : FeedEnd) → end ≡ feed_of t m part room → (came : Took) → end.answer ≡ Ok came
+    → Told t part room came.taken came.reports
 unfolding said took_from
-fed_told t m part room end is taken reports steps e =
+fed_told t m part room end is came e =
     ⊎_elim
     (λ (r : Refused m room (feed_of t m part room)). absurd (r.number (ap (λ (a : Fed). (said a).number) took)))
     (λ (k : Taking t m part room (feed_of t m part room)).
@@ -61,14 +62,14 @@ fed_told t m part room end is taken reports steps e =
     let rule = rule_feed t m part room (ap (λ (a : Fed). (said a).number) took) in
     let written : (said (feed_of t m part room).answer).reports ≡ (part_taken t (length room / 2) part start).here.reports.written = ap (λ (e : FeedEnd). (said e.answer).reports) k.is in
     record {
-      tables = k.ready.tables;
+      tables = k.tables;
       phrases = k.ready.phrases;
       offered = omega (arith, rule.takes.offered, ap (λ (a : Fed). (said a).taken) took);
       held = omega (arith, written, ap (λ (a : Fed). (said a).reports) took, written_few t (length room / 2) part start (omega arith));
     })
     (feed_cases t m part room)
   where
-    took : (feed_of t m part room).answer ≡ fed.Took taken reports steps
+    took : (feed_of t m part room).answer ≡ Ok came
     took = ap (λ (e : FeedEnd). e.answer) (sym is) ∙ e
 
 -- ── The ways ──
@@ -80,21 +81,20 @@ module _ (t m part room out : List ℕ) (end : FeedEnd) (is : end ≡ feed_of t 
       ap (λ (a : Fed). listed_as a t end.memory end.room out) (sym e)
       ∙ ap (λ (f : FeedEnd). listed_as f.answer t f.memory f.room out) is
 
-  -- Any refusal but that of 11 is one of the three others.
-  pub listed_refused : (end.answer ≡ fed.TooSmall) ⊎ (end.answer ≡ fed.NotPassed) ⊎ (end.answer ≡ fed.NoRoom)
-      → record { answer = listed.NotTaken; running = end.memory; room = end.room; out = out } ≡ list_of t m part room out
+  pub listed_refused : (why : FeedError) → end.answer ≡ Err why → (refused : PartRefused) → refused ≡ part_refused why
+      → record { answer = Err refused; running = end.memory; room = end.room; out = out } ≡ list_of t m part room out
   unfolding listed_as
-  listed_refused (inl small) = listed_as_lem fed.TooSmall small
-  listed_refused (inr (inl other)) = listed_as_lem fed.NotPassed other
-  listed_refused (inr (inr full)) = listed_as_lem fed.NoRoom full
+  listed_refused why e refused is-so =
+      ap {B = ListEnd} (λ (r : PartRefused). record { answer = Err r; running = end.memory; room = end.room; out = out }) is-so
+      ∙ listed_as_lem (Err why) e
 
-  pub listed_took : (taken reports steps : ℕ) → end.answer ≡ fed.Took taken reports steps
-      → (after : List ℕ) (r : ℕ) → left after r ≡ hits_of t end.room reports out
-      → record { answer = took_answer taken reports steps r; running = end.memory; room = end.room; out = after } ≡ list_of t m part room out
+  pub listed_took : (came : Took) → end.answer ≡ Ok came
+      → (after : List ℕ) (r : ℕ) → left after r ≡ hits_of t end.room came.reports out
+      → record { answer = took_answer came.taken came.reports came.steps r; running = end.memory; room = end.room; out = after } ≡ list_of t m part room out
   unfolding listed_as took_with
-  listed_took taken reports steps e after r lines =
-      ap (λ (l : Left). record { answer = took_answer taken reports steps l.next; running = end.memory; room = end.room; out = l.buffer }) lines
-      ∙ listed_as_lem (fed.Took taken reports steps) e
+  listed_took came e after r lines =
+      ap (λ (l : Left). record { answer = took_answer came.taken came.reports came.steps l.next; running = end.memory; room = end.room; out = l.buffer }) lines
+      ∙ listed_as_lem (Ok came) e
 
 -- ── Bytes taken and lines written are inside what was lent ──
 
@@ -104,14 +104,11 @@ Within part out end = (listed_taken end.answer ≤ length part) × (listed_end e
 as_within : (t m part room out : List ℕ) (answer : Fed) → (feed_of t m part room).answer ≡ answer
     → Within part out (listed_as answer t (feed_of t m part room).memory (feed_of t m part room).room out)
 unfolding listed_as took_with listed_taken listed_end
-as_within t m part room out (fed.Took taken reports steps) e = (
-  (fed_told t m part room (feed_of t m part room) refl taken reports steps e).offered,
+as_within t m part room out (Ok came) e = (
+  (fed_told t m part room (feed_of t m part room) refl came e).offered,
   (hits_inside t (feed_of t m part room).room (length out) 0 _ (left out 0) (record { long = refl; inside = omega arith })).inside,
 )
-as_within t m part room out fed.TooLong e = (omega arith, omega arith)
-as_within t m part room out fed.TooSmall e = (omega arith, omega arith)
-as_within t m part room out fed.NotPassed e = (omega arith, omega arith)
-as_within t m part room out fed.NoRoom e = (omega arith, omega arith)
+as_within t m part room out (Err why) e = (omega arith, omega arith)
 
 pub list_within : (t m part room out : List ℕ) (end : ListEnd) → end ≡ list_of t m part room out → Within part out end
 unfolding list_of

@@ -8,17 +8,18 @@ use lib.ListN.{length, take, get_or, length-take}
 use borrow.Author.Tests.{le-leb}
 use Rattle.lent.specs.Numbers.{with_bytes}
 use Rattle.lent.proofs.Bytes.{byte_written}
+use Rattle.std.specs.Prelude.{Ok, Err}
 use Rattle.meaning.specs.Books.{Book}
 use Rattle.meaning.specs.Reports.{Report}
 use Rattle.meaning.specs.Calls.{largest_place, takes, fed, reports_after, steps_after}
 use Rattle.meaning.proofs.Taking.{takes_is, takes_fits}
 use Rattle.tracking.specs.Reports.{in_room}
 use Rattle.feeding.proofs.Reports.{length_in_room}
-use Rattle.scanner.specs.Answers.{Said, said, refusal}
+use Rattle.scanner.specs.declared.refusals.FeedError.TheVariants.{NoRoom, TooLong}
+use Rattle.scanner.specs.Answers.{took, feed_number, said}
 use Rattle.scanner.specs.Exact.{FeedEnd, feed_of}
 use Rattle.scanner.specs.Meant.{TablesOf, RunningOf, FeedRefused, FeedDone, FeedRight}
-use Rattle.scanner.specs.declared.Fed.{Fed}
-use Rattle.scanner.specs.declared.Fed.TheVariants as answers
+use Rattle.scanner.proofs.Once.{fed_once}
 use Rattle.scanner.proofs.Feeds.{feed_means}
 use Rattle.listing.specs.Lines.{longest_line}
 use Rattle.listing.specs.Writing.{Left, left}
@@ -26,40 +27,13 @@ use Rattle.listing.specs.Listing.{hit_lines}
 use Rattle.listing.proofs.Whole.{first_bytes}
 use Rattle.lines.specs.Answers.{listed_end}
 use Rattle.lines.specs.Last.{text_of}
-use Rattle.lines.specs.declared.answers.Listed.TheVariants as listed
+use Rattle.lines.specs.declared.answers.PartRefused.TheVariants as listed
 use Rattle.lines.proofs.Ends.{hits_inside}
-use Rattle.parts.specs.Exact.{ListEnd, hits_of, took_with, listed_as, list_of}
+use Rattle.parts.specs.Exact.{ListEnd, hits_of, took_with, part_refused, listed_as, list_of}
 use Rattle.parts.specs.Meant.{ListRefused, ListTook, ListRight}
 use Rattle.parts.specs.Promised.{ListPromise}
 use Rattle.parts.proofs.Lists.{listed_as_lem}
 use Rattle.parts.proofs.Shown.{reports_show, hits_shown}
-
--- ── What feed says tells its answer ──
-
-said_took : (a : Fed) (taken reports steps : ℕ) → said a ≡ record { number = 0; taken = taken; reports = reports; steps = steps } → a ≡ answers.Took taken reports steps
-unfolding said
-said_took (answers.Took k r s) taken reports steps e =
-    ap (λ (x : Said). answers.Took x.taken x.reports x.steps) e
-said_took answers.TooSmall taken reports steps e = absurd (omega (arith, ap (λ (x : Said). x.number) e))
-said_took answers.NotPassed taken reports steps e = absurd (omega (arith, ap (λ (x : Said). x.number) e))
-said_took answers.NoRoom taken reports steps e = absurd (omega (arith, ap (λ (x : Said). x.number) e))
-said_took answers.TooLong taken reports steps e = absurd (omega (arith, ap (λ (x : Said). x.number) e))
-
-said_no_room : (a : Fed) → said a ≡ refusal 10 → a ≡ answers.NoRoom
-unfolding said
-said_no_room (answers.Took k r s) e = absurd (omega (arith, ap (λ (x : Said). x.number) e))
-said_no_room answers.TooSmall e = absurd (omega (arith, ap (λ (x : Said). x.number) e))
-said_no_room answers.NotPassed e = absurd (omega (arith, ap (λ (x : Said). x.number) e))
-said_no_room answers.NoRoom e = refl
-said_no_room answers.TooLong e = absurd (omega (arith, ap (λ (x : Said). x.number) e))
-
-said_too_long : (a : Fed) → said a ≡ refusal 11 → a ≡ answers.TooLong
-unfolding said
-said_too_long (answers.Took k r s) e = absurd (omega (arith, ap (λ (x : Said). x.number) e))
-said_too_long answers.TooSmall e = absurd (omega (arith, ap (λ (x : Said). x.number) e))
-said_too_long answers.NotPassed e = absurd (omega (arith, ap (λ (x : Said). x.number) e))
-said_too_long answers.NoRoom e = absurd (omega (arith, ap (λ (x : Said). x.number) e))
-said_too_long answers.TooLong e = refl
 
 -- With room for every phrase a byte is taken where there is one.
 takes_some : (book : Book) (x part : List ℕ) (room : ℕ) → length book.phrases ≤ room → 0 < length part → 0 < takes book x part room
@@ -125,24 +99,24 @@ module _ (book : Book) (x t m part room out : List ℕ) (tables : TablesOf book 
   end = list_of t m part room out
 
   list_took : length book.phrases ≤ length room / 2 → length x + length part ≤ largest_place → FeedDone book x m part room fed_end → ListTook book x part room out count end
-  unfolding listed_as fed
+  unfolding listed_as fed said
   list_took roomy short done =
       subst (ListTook book x part room out count)
-      (listed_as_lem t m part room out fed_end refl (answers.Took count (length hits) failures) (said_took fed_end.answer count (length hits) failures done.says))
+      (listed_as_lem t m part room out fed_end refl (Ok (took count (length hits) failures)) (fed_once fed_end.answer (Ok (took count (length hits) failures)) done.says))
       (took_right fed_end short roomy done)
 
-  list_no_room : FeedRefused 10 m room fed_end → (end.answer ≡ listed.NotTaken) × ListRefused m room out end
-  unfolding listed_as
+  list_no_room : FeedRefused 10 m room fed_end → (end.answer ≡ Err listed.NotTaken) × ListRefused m room out end
+  unfolding listed_as part_refused said feed_number
   list_no_room refused =
-      subst (λ (e : ListEnd). (e.answer ≡ listed.NotTaken) × ListRefused m room out e)
-      (listed_as_lem t m part room out fed_end refl answers.NoRoom (said_no_room fed_end.answer refused.says))
+      subst (λ (e : ListEnd). (e.answer ≡ Err listed.NotTaken) × ListRefused m room out e)
+      (listed_as_lem t m part room out fed_end refl (Err NoRoom) (fed_once fed_end.answer (Err NoRoom) refused.says))
       (refl, record { memory_kept = refused.memory_kept; room_kept = refused.room_kept; out_kept = refl })
 
-  list_too_long : FeedRefused 11 m room fed_end → (end.answer ≡ listed.TooLong) × ListRefused m room out end
-  unfolding listed_as
+  list_too_long : FeedRefused 11 m room fed_end → (end.answer ≡ Err listed.TooLong) × ListRefused m room out end
+  unfolding listed_as part_refused said feed_number
   list_too_long refused =
-      subst (λ (e : ListEnd). (e.answer ≡ listed.TooLong) × ListRefused m room out e)
-      (listed_as_lem t m part room out fed_end refl answers.TooLong (said_too_long fed_end.answer refused.says))
+      subst (λ (e : ListEnd). (e.answer ≡ Err listed.TooLong) × ListRefused m room out e)
+      (listed_as_lem t m part room out fed_end refl (Err TooLong) (fed_once fed_end.answer (Err TooLong) refused.says))
       (refl, record { memory_kept = refused.memory_kept; room_kept = refused.room_kept; out_kept = refl })
 
   pub list_means : RunningOf book x m → ListRight book x m part room out end

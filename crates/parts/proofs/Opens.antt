@@ -1,7 +1,6 @@
 -- Each way through open_book is one case of its definition, by what build and begin answer.
 -- Assumes nothing.
 use mathlib.Core.Path.{◌≡◌, refl, sym, ap, ap₂, subst, ◌∙◌}
-use mathlib.Core.Logic.{◌⊎◌, inl, inr}
 use mathlib.Core.Bool.{Bool, true, false, cond}
 use mathlib.Core.List.{List}
 use Prim.Native.Nat.{ℕ, ◌≤◌}
@@ -9,29 +8,29 @@ use native.Mathlib.Omega.{arith}
 use lib.Dec.{eqb}
 use lib.ListN.{length}
 use borrow.Author.Tests.{eq-eqb, ne_eqb}
+use Rattle.std.specs.Prelude.{Ok, Err}
 use Rattle.tables.specs.Reads.{Whole, phrase_count_in}
-use Rattle.builder.specs.declared.answers.Built.{Built}
-use Rattle.builder.specs.Answers.{Said, said, said_by}
+use Rattle.builder.specs.Answers.{Built, Said, said, said_by}
 use Rattle.builder.specs.Build.{Outcome, outcome, build_of}
-use Rattle.scanner.specs.Answers.{begun_number}
+use Rattle.builder.specs.declared.answers.BuildError.{BuildError}
+use Rattle.builder.proofs.Once.{refused_number}
+use Rattle.scanner.specs.declared.refusals.MemoryError.{MemoryError}
+use Rattle.scanner.specs.Answers.{Begun, memory_number, begun_number}
 use Rattle.scanner.specs.Passing.{too_small}
 use Rattle.scanner.specs.Exact.{BeginEnd, begin_of}
-use Rattle.scanner.specs.declared.Begun.{Begun}
-use Rattle.scanner.specs.declared.Begun.TheVariants as begun
 use Rattle.scanner.proofs.Passing.{whole}
 use Rattle.scanner.proofs.Cases.{begin_small}
 use Rattle.listing.specs.Lines.{book_line, refused_line}
 use Rattle.listing.specs.Writing.{Left, left, with_line}
 use Rattle.lines.specs.Answers.{opened_end}
-use Rattle.lines.specs.declared.answers.Opened.TheVariants as opened
 use Rattle.lines.proofs.Ends.{line_inside}
 use Rattle.parts.specs.Exact.{OpenEnd, ready_with, ready_as, begun_of, refused_answer, refused_with, opened_as, open_of}
 
 -- ── The letter begins ──
 
 -- Tables that begin takes are as long as published.
-pub begun_whole : (t m : List ℕ) (end : BeginEnd) → end ≡ begin_of t m → end.answer ≡ begun.Done → Whole t
-unfolding begun_number
+pub begun_whole : (t m : List ℕ) (end : BeginEnd) → end ≡ begin_of t m → end.answer ≡ Ok tt → Whole t
+unfolding memory_number begun_number
 begun_whole t m end is done = go (too_small t m) refl
   where
     go : (v : Bool) → too_small t m ≡ v → Whole t
@@ -46,18 +45,16 @@ module _ (t m out : List ℕ) (offset : ℕ) (end : BeginEnd) (is : end ≡ begi
       ap (λ (a : Begun). ready_as a t end.memory out offset) (sym e)
       ∙ ap (λ (b : BeginEnd). ready_as b.answer t b.memory out offset) is
 
-  -- A refusal is one of the two other answers.
-  pub begun_refused : (end.answer ≡ begun.TooSmall) ⊎ (end.answer ≡ begun.NotPassed)
-      → record { answer = opened.Refused 0; tables = t; running = end.memory; out = out } ≡ begun_of t m out offset
+  pub begun_refused : (why : MemoryError) → end.answer ≡ Err why
+      → record { answer = Err (record { end = 0 }); tables = t; running = end.memory; out = out } ≡ begun_of t m out offset
   unfolding ready_as
-  begun_refused (inl small) = begun_as begun.TooSmall small
-  begun_refused (inr other) = begun_as begun.NotPassed other
+  begun_refused why e = begun_as (Err why) e
 
-  pub begun_ready : end.answer ≡ begun.Done → (after : List ℕ) (r : ℕ) → left after r ≡ with_line out 0 (book_line 0 offset (phrase_count_in t))
-      → record { answer = opened.Ready r; tables = t; running = end.memory; out = after } ≡ begun_of t m out offset
+  pub begun_ready : end.answer ≡ Ok tt → (after : List ℕ) (r : ℕ) → left after r ≡ with_line out 0 (book_line 0 offset (phrase_count_in t))
+      → record { answer = Ok r; tables = t; running = end.memory; out = after } ≡ begun_of t m out offset
   unfolding ready_as ready_with
   begun_ready e after r line =
-      ap (λ (l : Left). record { answer = opened.Ready l.next; tables = t; running = end.memory; out = l.buffer }) line ∙ begun_as begun.Done e
+      ap (λ (l : Left). record { answer = Ok l.next; tables = t; running = end.memory; out = l.buffer }) line ∙ begun_as (Ok tt) e
 
 -- ── The book ──
 
@@ -76,31 +73,30 @@ module _ (number offset : ℕ) (t m out : List ℕ) where
   unfolding opened_as
   taken_is none = rw (eq-eqb number 0 none)
 
-module _ (book t m out : List ℕ) (answer : Built) (after : List ℕ) (is : outcome answer after ≡ build_of book t)
-    (number offset : ℕ) (counted : number ≡ (said_by answer).number) (found : offset ≡ (said_by answer).offset) where
-  says : said number offset ≡ said_by answer
-  says = ap₂ said counted found
-
-  opened_is : opened_as (said number offset) after m out ≡ open_of book t m out
-  opened_is = ap (λ (s : Said). opened_as s after m out) says ∙ opened_by book t m out answer after is
-
-  pub open_refused : (number ≡ 0 → ⊥) → (written : List ℕ) (r : ℕ) → left written r ≡ with_line out 0 (refused_line number offset)
+module _ (book t m out after : List ℕ) where
+  pub open_refused : (why : BuildError) → outcome (Err why) after ≡ build_of book t
+      → (number offset : ℕ) → number ≡ (said_by (Err why)).number → offset ≡ (said_by (Err why)).offset
+      → (written : List ℕ) (r : ℕ) → left written r ≡ with_line out 0 (refused_line number offset)
       → record { answer = refused_answer r; tables = after; running = m; out = written } ≡ open_of book t m out
   unfolding refused_with
-  open_refused some written r line =
+  open_refused why is number offset counted found written r line =
       ap (λ (l : Left). record { answer = refused_answer l.next; tables = after; running = m; out = l.buffer }) line
-      ∙ sym (refused_is number offset after m out some) ∙ opened_is
+      ∙ sym (refused_is number offset after m out (λ none. refused_number why (sym counted ∙ none)))
+      ∙ ap (λ (s : Said). opened_as s after m out) (ap₂ said counted found)
+      ∙ opened_by book t m out (Err why) after is
 
-  pub open_taken : number ≡ 0 → (end : OpenEnd) → end ≡ begun_of after m out offset → end ≡ open_of book t m out
-  open_taken none end begins = begins ∙ sym (taken_is number offset after m out none) ∙ opened_is
+  pub open_taken : (long : ℕ) → outcome (Ok long) after ≡ build_of book t
+      → (offset : ℕ) → offset ≡ long → (end : OpenEnd) → end ≡ begun_of after m out offset → end ≡ open_of book t m out
+  unfolding said_by
+  open_taken long is offset found end begins =
+      begins ∙ ap (begun_of after m out) found ∙ sym (taken_is 0 long after m out refl) ∙ opened_by book t m out (Ok long) after is
 
 -- ── The line of the book ends inside the buffer ──
 
 ready_inside : (answer : Begun) (t m out : List ℕ) (offset : ℕ) → opened_end (ready_as answer t m out offset).answer ≤ length out
 unfolding ready_as ready_with opened_end
-ready_inside begun.Done t m out offset = (line_inside out 0 (book_line 0 offset (phrase_count_in t)) (omega arith)).inside
-ready_inside begun.TooSmall t m out offset = omega arith
-ready_inside begun.NotPassed t m out offset = omega arith
+ready_inside (Ok done) t m out offset = (line_inside out 0 (book_line 0 offset (phrase_count_in t)) (omega arith)).inside
+ready_inside (Err why) t m out offset = omega arith
 
 as_inside : (says : Said) (t m out : List ℕ) → opened_end (opened_as says t m out).answer ≤ length out
 unfolding opened_as refused_with begun_of opened_end

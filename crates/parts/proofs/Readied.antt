@@ -6,6 +6,7 @@ use mathlib.Core.List.{List}
 use Prim.Native.Nat.{ℕ, ◌^◌, ◌≤◌, ◌<◌}
 use native.Mathlib.Omega.{arith}
 use lib.ListN.{length}
+use Rattle.std.specs.Prelude.{Ok, Err}
 use Rattle.lent.specs.Numbers.{Bytes}
 use Rattle.meaning.specs.Books.{Book}
 use Rattle.format.specs.Refusals.{refusal_number}
@@ -16,30 +17,21 @@ use Rattle.tables.specs.Layout.{tables_size}
 use Rattle.tables.specs.Reads.{phrase_count_in}
 use Rattle.tables.proofs.Fields.{phrase_count_laid}
 use Rattle.running.specs.Layout.{running_size}
-use Rattle.builder.specs.declared.answers.Built.{Built}
-use Rattle.builder.specs.Answers.{Said, said, said_by, said_of}
+use Rattle.builder.specs.Answers.{Built, Said, said, said_by, said_of}
 use Rattle.builder.specs.Build.{Holds, Judged, BuiltRight}
 use Rattle.scanner.specs.Answers.{begun_number}
+use Rattle.scanner.proofs.Once.{begun_once}
 use Rattle.scanner.specs.Exact.{begin_of}
 use Rattle.scanner.specs.Meant.{TablesOf, BeginDone}
-use Rattle.scanner.specs.declared.Begun.{Begun}
-use Rattle.scanner.specs.declared.Begun.TheVariants as begun
 use Rattle.scanner.proofs.Begins.{begin_means}
 use Rattle.listing.specs.Lines.{book_line, refused_line, longest_line}
 use Rattle.listing.proofs.Lengths.{book_line_most, refused_line_most}
 use Rattle.lines.specs.Answers.{opened_end}
-use Rattle.lines.specs.declared.answers.Opened.TheVariants as opened
 use Rattle.lines.proofs.Texts.{line_text}
 use Rattle.parts.specs.Exact.{OpenEnd, ready_with, ready_as, refused_with, opened_as, open_of}
 use Rattle.parts.specs.Meant.{opened_text, BookReady, OpensAs}
 use Rattle.parts.specs.Promised.{OpenPromise}
 use Rattle.parts.proofs.Opens.{begun_as, opened_by, refused_is, taken_is}
-
-begun_done : (answer : Begun) → begun_number answer ≡ 0 → answer ≡ begun.Done
-unfolding begun_number
-begun_done begun.Done e = refl
-begun_done begun.TooSmall e = absurd (omega arith)
-begun_done begun.NotPassed e = absurd (omega arith)
 
 module _ (bytes t m out : List ℕ) (held : Bytes m) (long : running_size ≤ length m) (short : length bytes < 2 ^ 64)
     (answer : Built) (after : List ℕ) (built : BuiltRight bytes t answer after) (tables_held : Bytes after) (large : tables_size ≤ length t) where
@@ -67,10 +59,10 @@ module _ (bytes t m out : List ℕ) (held : Bytes m) (long : running_size ≤ le
     }
 
     accepted_opens : BookReady book offset out (opened_as (said 0 offset) after m out)
-    unfolding ready_as
+    unfolding ready_as begun_number
     accepted_opens =
         subst (BookReady book offset out)
-        (begun_as after m out offset (begin_of after m) refl begun.Done (begun_done (begin_of after m).answer begins.number)
+        (begun_as after m out offset (begin_of after m) refl (Ok tt) (begun_once (begin_of after m).answer (Ok tt) begins.number)
         ∙ sym (taken_is 0 offset after m out refl))
         ready_right
 
@@ -78,7 +70,7 @@ module _ (bytes t m out : List ℕ) (held : Bytes m) (long : running_size ≤ le
 
   refused_opens : (number offset : ℕ) → (number ≡ 0 → ⊥) → length (refused_line number offset) ≤ longest_line
       → (end : OpenEnd) → end ≡ opened_as (said number offset) after m out
-      → (end.answer ≡ opened.Refused (opened_end end.answer)) × (longest_line ≤ length out → opened_text end ≡ refused_line number offset)
+      → (end.answer ≡ Err (record { end = opened_end end.answer })) × (longest_line ≤ length out → opened_text end ≡ refused_line number offset)
   unfolding refused_with opened_end
   refused_opens number offset some most end is =
       rw (is, refused_is number offset after m out some)

@@ -1,24 +1,27 @@
 -- A book that came lies in its buffer: by cases of what was read. Assumes nothing.
-use Rattle.std.proofs.Common.{ℕ, ◌≤◌, arith}
-use Rattle.pipes.specs.declared.reading.Brought.{Brought}
-use Rattle.pipes.specs.declared.reading.Brought.TheVariants as brought
-use Rattle.pipes.specs.declared.books.Came.{Came}
+use Rattle.std.proofs.Common.{ℕ, ◌≤◌, Bool, true, false, eqb, ltb, Result, Ok, Err, arith}
+use Rattle.pipes.specs.declared.reading.NotRead.{NotRead}
+use Rattle.pipes.specs.declared.NotListed.{NotListed}
+use Rattle.pipes.specs.declared.books.Book.{Book}
 use Rattle.pipes.specs.Reading.{Fits}
-use Rattle.pipes.specs.Books.{book_of, SizedBook, whole_of, CameWithin}
+use Rattle.pipes.specs.Books.{BookOf, BookBehind, SizedBook, ShortBook, WholeBook, CameWithin}
 
-book_within : (size room : ℕ) (b : Brought) → size ≤ room → Fits b size → CameWithin (book_of size b) room
-unfolding book_of
-book_within size room brought.Full long fits = long
-book_within size room (brought.Ended count) long fits = omega arith
-book_within size room brought.Failed long fits = tt
+book_within : (size room : ℕ) (came : Result ℕ NotRead) (book : Result Book NotListed) → size ≤ room → Fits came size → BookOf size came book → CameWithin book room
+book_within size room (Ok count) book long fits is = rw is (omega arith)
+book_within size room (Err failed) book long fits is = rw is tt
 
-pub sized_within : (b : Brought) (book : Came) (room : ℕ) → 65535 ≤ room → SizedBook b book → CameWithin book room
-sized_within brought.Full book room long sized = rw sized.1.1.1.1 (book_within sized.0 room sized.1.1.0 (omega (arith, sized.1.0)) sized.1.1.1.0)
-sized_within (brought.Ended count) book room long sized = rw sized (omega arith)
-sized_within brought.Failed book room long sized = rw sized tt
+behind_within : (short : Bool) (book : Result Book NotListed) (room : ℕ) → 65535 ≤ room → BookBehind short book → CameWithin book room
+behind_within true book room long is = rw is (omega arith)
+behind_within false book room long is = book_within is.0 room is.1.1.0 book (omega (arith, is.1.0)) is.1.1.1.0 is.1.1.1.1
 
-pub whole_within : (b : Brought) (room : ℕ) → Fits b room → CameWithin (whole_of b) room
-unfolding whole_of
-whole_within brought.Full room fits = tt
-whole_within (brought.Ended count) room fits = omega arith
-whole_within brought.Failed room fits = tt
+pub sized_within : (told : Result ℕ NotRead) (book : Result Book NotListed) (room : ℕ) → 65535 ≤ room → SizedBook told book → CameWithin book room
+sized_within (Ok told) book room long sized = behind_within (ltb told 2) book room long sized
+sized_within (Err failed) book room long sized = rw sized tt
+
+short_within : (full : Bool) (size room : ℕ) (book : Result Book NotListed) → size ≤ room → ShortBook full size book → CameWithin book room
+short_within true size room book fits is = rw is tt
+short_within false size room book fits is = rw is fits
+
+pub whole_within : (came : Result ℕ NotRead) (room : ℕ) (book : Result Book NotListed) → Fits came room → WholeBook room came book → CameWithin book room
+whole_within (Ok size) room book fits is = short_within (eqb size room) size room book fits is
+whole_within (Err failed) room book fits is = rw is tt

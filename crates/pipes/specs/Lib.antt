@@ -1,3 +1,5 @@
 pub mod Reading
 pub mod Books
 pub mod Letter
+pub mod Words
+pub mod Writing

@@ -8,16 +8,15 @@ mod letter;
 mod reading;
 mod words;
 
-pub use books::{Came, sized_book, whole_book};
+pub use books::{Book, sized_book, whole_book};
 pub use letter::{Standing, Totals, Turn, after, next, start};
-pub use reading::Brought;
+pub use reading::NotRead;
 pub use words::say;
 
-// How a listing ended: what the caller is told, since what was read and written no contract can say.
-#[derive(Clone, Copy)]
-pub enum Ran {
-    // the letter was read to its end, and the end line is written
-    Listed,
+// Why a letter is not listed to its end: what the caller is told, since what was read and written no contract can say. A letter that is
+// read to its end has its end line written.
+#[derive(Clone, Copy, Debug, PartialEq, Eq)]
+pub enum NotListed {
     // the book was refused, and its line is written
     BookRefused,
     // the letter was refused with 11, and its line is written

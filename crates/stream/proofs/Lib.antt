@@ -1,2 +1,1 @@
 mod Left
-mod Ends

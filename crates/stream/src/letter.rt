@@ -1,10 +1,10 @@
 // The letter, turn after turn: the bytes that are next, a call on them, and its lines.
-ghost use Rattle.std.specs.Prelude.{◌≤◌, length};
-ghost use Rattle.pipes.specs.Letter.{PartInside, TurnWithin};
-ghost use Rattle.stream.specs.Ends.{EndFrom};
+ghost use Rattle.std.specs.Prelude.{◌≡◌, ◌≤◌, length};
+ghost use Rattle.pipes.specs.Letter.{TurnWithin};
+ghost use Rattle.stream.specs.Ends.{LetterEnd};
 
 use listing::LONGEST_LINE;
-use pipes::{Ran, Standing, Turn, after, next};
+use pipes::{NotListed, Standing, after, next};
 use std::io::{Read, Write};
 
 // The bytes of a part; only the last one is shorter.
@@ -25,29 +25,22 @@ const LINES: usize = LONGEST_LINE * REPORTS;
 pub(crate) fn list_letter<R: Read, W: Write>(
     tables: &[u8],
     running: &mut [u8],
-    first: Turn,
+    first: Standing,
     from: &mut R,
     to: &mut W,
-) -> Ran
-    requires { PartInside first 0 }
-    ensures { EndFrom first result }
+) -> Result<(), NotListed>
+    requires { first.size ≡ 0 }
+    ensures { LetterEnd result }
 {
     let mut part = [0u8; PART];
-    let mut turn = first;
-    let mut turns = 0;
-    while turns < MOST_TURNS {
-        turn = next(turn, &mut part, from, to);
-        match turn {
-            Turn::On { standing } => {
-                turn = list_some(tables, running, &part, standing, to);
-            }
-            Turn::Over { ran } => {
-                return ran;
-            }
-        }
-        turns += 1;
+    let mut standing = first;
+    for _ in 0..MOST_TURNS {
+        let Some(offered) = next(Ok(Some(standing)), &mut part, from, to)? else {
+            return Ok(());
+        };
+        standing = list_some(tables, running, &part, offered, to)?;
     }
-    Ran::NotTaken
+    Err(NotListed::NotTaken)
 }
 
 // One call, on what is left of the part, and the lines of its hits.
@@ -57,7 +50,7 @@ fn list_some<W: Write>(
     part: &[u8],
     standing: Standing,
     to: &mut W,
-) -> Turn
+) -> Result<Standing, NotListed>
     requires { (standing.used ≤ standing.size) × (standing.size ≤ length part.now) }
     ensures { TurnWithin standing result }
 {

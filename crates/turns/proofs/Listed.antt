@@ -5,9 +5,10 @@ use mathlib.Core.Path.{◌≡◌, ap, ap₂, ◌∙◌}
 use mathlib.Core.List.{List, ◌++◌}
 use Prim.Native.Nat.{ℕ}
 use lib.ListN.{length}
+use Rattle.std.specs.Prelude.{Result}
 use Rattle.format.specs.Judged.{Judgement, accepted, refused, judged}
 use Rattle.listing.specs.Listing.{book_in, letter_in, lines_of, listing}
-use Rattle.lines.specs.declared.answers.Opened.{Opened}
+use Rattle.lines.specs.declared.answers.BookRefused.{BookRefused}
 use Rattle.parts.specs.Exact.{OpenEnd}
 use Rattle.parts.specs.Meant.{opened_text, OpensAs}
 use Rattle.parts.specs.Promised.{OpenPromise}
@@ -31,8 +32,8 @@ listing_written input tables running line lent last end promise enough =
 
     of_judgement : (j : Judgement) → OpensAs j line end → opening end.answer (opened_text end) turns ≡ lines_of j letter
     of_judgement (accepted book offset) is =
-        ap (λ (a : Opened). opening a (opened_text end) turns) is.ready
+        ap (λ (a : Result ℕ BookRefused). opening a (opened_text end) turns) is.ready
         ∙ ap₂ ◌++◌ (is.text enough.for_the_book)
         (letter_written book end.tables letter lent last is.tables enough.for_reports enough.for_hits enough.for_the_end end.running is.running)
     of_judgement (refused why offset) is =
-        ap (λ (a : Opened). opening a (opened_text end) turns) is.not_ready ∙ is.text enough.for_the_book
+        ap (λ (a : Result ℕ BookRefused). opening a (opened_text end) turns) is.not_ready ∙ is.text enough.for_the_book

@@ -7,6 +7,7 @@ use native.Mathlib.Omega.{arith}
 use lib.ListN.{length, take, drop, length-append, take-append-drop}
 use lib.Seq.{length-take-le}
 use borrow.Author.Tests.{lt-leb}
+use Rattle.std.specs.Prelude.{Result}
 use Rattle.meaning.specs.Books.{Book}
 use Rattle.meaning.specs.Reports.{reports}
 use Rattle.meaning.specs.Automaton.{steps}
@@ -19,8 +20,8 @@ use Rattle.listing.specs.Lines.{longest_line}
 use Rattle.listing.specs.Listing.{hit_lines}
 use Rattle.lines.specs.Answers.{listed_taken, listed_hits, listed_steps}
 use Rattle.lines.specs.declared.answers.Listed.{Listed}
-use Rattle.lines.specs.declared.answers.Listed.TheVariants as listed
-use Rattle.parts.specs.Exact.{ListEnd, list_of}
+use Rattle.lines.specs.declared.answers.PartRefused.{PartRefused}
+use Rattle.parts.specs.Exact.{ListEnd, took_answer, list_of}
 use Rattle.parts.specs.Meant.{listed_text, ListTook}
 use Rattle.parts.proofs.Meant.{list_means}
 use Rattle.turns.specs.Turns.{Lent, Totals, added, totals_with, remaining, onward, too_long_text, turns_from}
@@ -45,7 +46,7 @@ pub record Turned (book : Book) (x part text : List ℕ) (later : List ℕ → T
   pub written : text ≡ hit_lines book (reports_after book x these) ++ later memory totals
 
 -- Where bytes were taken, the lines of the turn are written, and then what follows.
-took_onward : (taken hits steps end : ℕ) (lines later too_long : List ℕ) → onward (listed.Took taken hits steps end) lines later too_long ≡ lines ++ later
+took_onward : (taken hits steps end : ℕ) (lines later too_long : List ℕ) → onward (took_answer taken hits steps end) lines later too_long ≡ lines ++ later
 unfolding onward
 took_onward taken hits steps end lines later too_long = refl
 
@@ -91,7 +92,7 @@ module _ (book : Book) (tables letter : List ℕ) (lent : ℕ → Lent) (last : 
       turn_text : turns_from tables letter lent last (suc more) turn m totals ≡ hit_lines book (reports_after book x y) ++ later end
       turn_text =
           turn_goes
-          ∙ ap (λ (a : Listed). onward a (listed_text end) (later end) (too_long_text tables letter lent last totals)) took.says
+          ∙ ap (λ (a : Result Listed PartRefused). onward a (listed_text end) (later end) (too_long_text tables letter lent last totals)) took.says
           ∙ took_onward taken (length (reports_after book x y)) (steps_after book x y) _ (listed_text end) (later end) (too_long_text tables letter lent last totals)
           ∙ ap (λ (l : List ℕ). l ++ later end) (took.text (out turn))
 
@@ -116,4 +117,4 @@ module _ (book : Book) (tables letter : List ℕ) (lent : ℕ → Lent) (last : 
     unfolding onward
     turn_too_long over =
         let refused = ((list_means book x tables m part (lent turn).room (lent turn).out held stands.running).too_long (roomy turn) over).0 in
-        turn_goes ∙ ap (λ (a : Listed). onward a (listed_text end) (later end) (too_long_text tables letter lent last totals)) refused
+        turn_goes ∙ ap (λ (a : Result Listed PartRefused). onward a (listed_text end) (later end) (too_long_text tables letter lent last totals)) refused

@@ -1,5 +1,5 @@
 -- What is written, turn by turn, in the program's order. Assumes nothing: these are definitions.
-use Rattle.std.specs.Prelude.{cond, List, [], ◌++◌, ℕ, zero, suc, ◌+◌, ◌*◌, ◌/◌, ◌%◌, ◌≤◌, leb, length, take, drop}
+use Rattle.std.specs.Prelude.{cond, List, [], ◌++◌, ℕ, zero, suc, ◌+◌, ◌*◌, ◌/◌, ◌%◌, ◌≤◌, leb, length, take, drop, Result, Ok, Err}
 use Rattle.format.specs.Limits.{most_phrases}
 use Rattle.tables.specs.Layout.{tables_size}
 use Rattle.running.specs.Layout.{running_size}
@@ -7,10 +7,10 @@ use Rattle.listing.specs.Lines.{longest_line}
 use Rattle.listing.specs.Listing.{part_length}
 use Rattle.lines.specs.Answers.{listed_taken, listed_hits, listed_steps}
 use Rattle.lines.specs.Last.{text_of, last_of, too_long_of}
-use Rattle.lines.specs.declared.answers.Opened.{Opened}
-use Rattle.lines.specs.declared.answers.Opened.TheVariants as opened
+use Rattle.lines.specs.declared.answers.BookRefused.{BookRefused}
 use Rattle.lines.specs.declared.answers.Listed.{Listed}
-use Rattle.lines.specs.declared.answers.Listed.TheVariants as listed
+use Rattle.lines.specs.declared.answers.PartRefused.{PartRefused}
+use Rattle.lines.specs.declared.answers.PartRefused.TheVariants as why
 use Rattle.parts.specs.Exact.{OpenEnd, ListEnd, list_of}
 use Rattle.parts.specs.Meant.{opened_text, listed_text}
 
@@ -34,7 +34,7 @@ unfoldable pub added : ℕ → ℕ → ℕ
 added count more = (count + more) % 18446744073709551616
 
 -- After one call more.
-unfoldable pub totals_with : Totals → Listed → Totals
+unfoldable pub totals_with : Totals → Result Listed PartRefused → Totals
 totals_with totals answer = record {
   taken = added totals.taken (listed_taken answer);
   hits = added totals.hits (listed_hits answer);
@@ -57,10 +57,10 @@ remaining letter taken = drop (part_used taken) (take part_length (drop (part_be
 
 -- What a turn's answer leads to: the lines of the turn, and the turns after it; or the line of a letter that is too long, and nothing after it. Any
 -- other refusal ends the listing there.
-unfoldable pub onward : Listed → List ℕ → List ℕ → List ℕ → List ℕ
-onward (listed.Took taken hits steps end) lines later too_long = lines ++ later
-onward listed.TooLong lines later too_long = too_long
-onward listed.NotTaken lines later too_long = []
+unfoldable pub onward : Result Listed PartRefused → List ℕ → List ℕ → List ℕ → List ℕ
+onward (Ok took) lines later too_long = lines ++ later
+onward (Err why.TooLong) lines later too_long = too_long
+onward (Err why.NotTaken) lines later too_long = []
 
 module _ (tables letter : List ℕ) (lent : ℕ → Lent) (last : List ℕ) where
   -- The call of a turn, after so many bytes.
@@ -84,9 +84,9 @@ module _ (tables letter : List ℕ) (lent : ℕ → Lent) (last : List ℕ) wher
 -- ── The whole ──
 
 -- The line of the book, and, where it is ready, what is written of the letter.
-unfoldable pub opening : Opened → List ℕ → List ℕ → List ℕ
-opening (opened.Ready end) line letter = line ++ letter
-opening (opened.Refused end) line letter = line
+unfoldable pub opening : Result ℕ BookRefused → List ℕ → List ℕ → List ℕ
+opening (Ok end) line letter = line ++ letter
+opening (Err refused) line letter = line
 
 -- All that is written, once open_book has answered. A letter has no more turns than bytes.
 unfoldable pub written : OpenEnd → List ℕ → (ℕ → Lent) → List ℕ → List ℕ

@@ -13,7 +13,7 @@ unfolding filled hit_line
 returns c =
     let a = c.args in
     let place = c.bytes-place.ensures in
-    let number = c.pair64-number.ensures.0 ∙ c.value.ensures in
+    let number = c.from-number.ensures ∙ c.value.ensures in
     c.put_line.ensures ∙ ap₂ (λ (p n : ℕ). with_line a.out.now a.at (hit_line p n a.rights)) place number
 
 pub put_line-requires : goal.put_line-requires

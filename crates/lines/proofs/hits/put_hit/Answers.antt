@@ -6,4 +6,4 @@ use Rattle.lines.proofs.hits.put_hit.Goals as goal
 pub returns : goal.returns
 returns c =
     let a = c.args in
-    hit_turn a.t.now a.room.now a.out.now a.i a.at _ _ _ c.of-number.ensures (c.at-place.ensures ∙ c.four64.ensures.0) c.rights_of-rights.ensures _ _ c.hit_line.ensures
+    hit_turn a.t.now a.room.now a.out.now a.i a.at _ _ _ c.of-number.ensures (c.at-place.ensures ∙ c.from.ensures) c.rights_of-rights.ensures _ _ c.hit_line.ensures

@@ -10,6 +10,3 @@ invariant-loop-i l =
     (l.i ≤ l.reports)
     × (length l.out ≡ length l.initial.out)
     × (hits_written l.t l.room l.i (l.reports - l.i) (left l.out l.end) ≡ hits_written l.t l.room 0 l.reports (left l.initial.out 0))
-
-abbrev pub decreases-loop-i : goal.decreases-loop-i
-decreases-loop-i l = l.reports - l.i

@@ -6,4 +6,4 @@ use Rattle.lines.proofs.rights.code_at.Goals as goal
 pub returns : goal.returns
 returns c =
     let a = c.args in
-    c.wide64.ensures.0 ∙ c.phrase_rights.ensures ∙ ap (phrase_rights_in a.t.now) c.of.ensures
+    c.from.ensures ∙ c.phrase_rights.ensures ∙ ap (phrase_rights_in a.t.now) c.of.ensures
