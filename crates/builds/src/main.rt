@@ -5,21 +5,19 @@
 mod lines;
 
 use lines::{again, line};
-use sheet::EXAMPLE;
+use sheet::{EXAMPLE, Sheet};
+use std::io;
 use tables::layout::SIZE;
 
 // ── The books ──
 
 // Room for the longest of them.
-const ROOM: usize = 12288;
+type Book = Sheet<12288>;
 
-const KEYWORD_BASE: u8 = 0x80;
+const LONGEST_KEYWORD: usize = 32;
 
 // How many values a byte has.
-const BYTES: usize = 256;
-
-// How many pieces a book here can have and still number its phrases.
-const MOST_PIECES: usize = 1024;
+const BYTES: u16 = 256;
 
 // Where the bounds of the example's second gap stand.
 const LEAST_AT: usize = 15;
@@ -28,81 +26,62 @@ const MOST_AT: usize = 17;
 
 const NINE: u8 = 9;
 
-// The example's length, and that of its first records.
-const LONG: usize = 27;
-
+// The length of the example's first records.
 const SHORT: usize = 9;
 
 // A book of so many pieces, so many to a phrase, each with a keyword of so many bytes; the second bytes of the keywords differ, or
 // all keywords are alike. The end record says so many phrases.
 #[derive(Clone, Copy)]
 struct Shape {
-    pieces: usize,
-    each: usize,
-    length: u8,
+    pieces: u16,
+    each: u16,
+    length: usize,
     differ: bool,
     phrases: u16,
 }
 
-// A keyword of so many bytes: a, the second byte, and then x.
-fn keyword(book: &mut [u8], at: usize, length: u8, second: u8) -> usize {
-    if KEYWORD_BASE <= length {
-        return at;
+impl Shape {
+    // The second byte of piece n's keyword.
+    fn second(self, n: u16) -> u8 {
+        if self.differ { (n % BYTES) as u8 } else { b'b' }
     }
-    let kind = sheet::byte(book, at, KEYWORD_BASE + length);
-    let begun = sheet::byte(book, kind, b'a');
-    if length < 2 {
-        return begun;
-    }
-    let more = sheet::byte(book, begun, second);
-    sheet::many(book, more, lent::wide_size(length - 2), b'x')
-}
 
-// A phrase record where piece n begins a phrase.
-fn maybe_phrase(book: &mut [u8], at: usize, n: usize, each: usize) -> usize {
-    if MOST_PIECES <= n {
-        return at;
+    // Piece n, behind a phrase record where it begins a phrase. Its keyword is a, the second byte, and then x.
+    fn write_piece(self, book: &mut Book, n: u16) {
+        if n.checked_rem(self.each) == Some(0) {
+            book.phrase(n.wrapping_add(1), 1);
+        }
+        book.open(0);
+        let mut letters = [b'x'; LONGEST_KEYWORD];
+        letters[0] = b'a';
+        letters[1] = self.second(n);
+        if let Some(word) = letters.get(..self.length) {
+            book.keyword(word);
+        }
     }
-    if each == 0 {
-        return at;
-    }
-    if n % each != 0 {
-        return at;
-    }
-    sheet::phrase(book, at, (n + 1) as u16, 1)
-}
 
-// The second byte of piece n's keyword.
-fn second(n: usize, differ: bool) -> u8 {
-    if differ {
-        return (n % BYTES) as u8;
+    // A book of this shape.
+    fn write(self, book: &mut Book) {
+        book.header(1);
+        for n in 0..self.pieces {
+            self.write_piece(book, n);
+        }
+        book.end(self.phrases);
     }
-    b'b'
-}
-
-// Writes a book of this shape and answers its length.
-fn pieces(book: &mut [u8], shape: Shape) -> usize {
-    let mut at = sheet::header(book, 0, 1);
-    for n in 0..shape.pieces {
-        let gap = maybe_phrase(book, at, n, shape.each);
-        let word = sheet::open(book, gap, 0);
-        at = keyword(book, word, shape.length, second(n, shape.differ));
-    }
-    sheet::end(book, at, shape.phrases)
 }
 
 // ── The cases ──
 
-fn shaped(rt: &impl Print, what: &[u8], shape: Shape) {
-    let mut book = [0u8; ROOM];
-    let end = pieces(&mut book, shape);
-    line(rt, what, &book, end, SIZE);
+fn shaped(rt: &impl Print, what: &str, shape: Shape) -> io::Result<()> {
+    let mut book = Book::new();
+    shape.write(&mut book);
+    line(rt, what, book.as_slice(), SIZE)
 }
 
-fn largest(rt: &impl Print) {
+fn largest(rt: &impl Print) -> io::Result<()> {
     shaped(
         rt,
-        b"128 phrases",
+        "128 phrases",
         Shape {
             pieces: 128,
             each: 1,
@@ -110,10 +89,10 @@ fn largest(rt: &impl Print) {
             differ: false,
             phrases: 128,
         },
-    );
+    )?;
     shaped(
         rt,
-        b"256 pieces",
+        "256 pieces",
         Shape {
             pieces: 256,
             each: 8,
@@ -121,10 +100,10 @@ fn largest(rt: &impl Print) {
             differ: false,
             phrases: 32,
         },
-    );
+    )?;
     shaped(
         rt,
-        b"128 phrases of 2 long pieces",
+        "128 phrases of 2 long pieces",
         Shape {
             pieces: 256,
             each: 2,
@@ -132,10 +111,10 @@ fn largest(rt: &impl Print) {
             differ: false,
             phrases: 128,
         },
-    );
+    )?;
     shaped(
         rt,
-        b"2047 prefixes",
+        "2047 prefixes",
         Shape {
             pieces: 66,
             each: 8,
@@ -143,13 +122,13 @@ fn largest(rt: &impl Print) {
             differ: true,
             phrases: 9,
         },
-    );
+    )
 }
 
-fn too_large(rt: &impl Print) {
+fn too_large(rt: &impl Print) -> io::Result<()> {
     shaped(
         rt,
-        b"129 phrases",
+        "129 phrases",
         Shape {
             pieces: 129,
             each: 1,
@@ -157,10 +136,10 @@ fn too_large(rt: &impl Print) {
             differ: false,
             phrases: 129,
         },
-    );
+    )?;
     shaped(
         rt,
-        b"257 pieces",
+        "257 pieces",
         Shape {
             pieces: 257,
             each: 8,
@@ -168,10 +147,10 @@ fn too_large(rt: &impl Print) {
             differ: false,
             phrases: 33,
         },
-    );
+    )?;
     shaped(
         rt,
-        b"2078 prefixes",
+        "2078 prefixes",
         Shape {
             pieces: 67,
             each: 8,
@@ -179,26 +158,31 @@ fn too_large(rt: &impl Print) {
             differ: true,
             phrases: 9,
         },
-    );
+    )
 }
 
-fn small(rt: &impl Print) {
-    let example = EXAMPLE;
+fn small(rt: &impl Print) -> io::Result<()> {
     let mut crossed = EXAMPLE;
     crossed[LEAST_AT] = NINE;
     crossed[MOST_AT] = 1;
-    line(rt, b"the example", &example, LONG, SIZE);
-    line(rt, b"the example, least above most", &crossed, LONG, SIZE);
-    line(rt, b"the example cut short", &example, SHORT, SIZE);
-    line(rt, b"the empty book", &example, 0, SIZE);
-    line(rt, b"tables one byte short", &example, LONG, SIZE - 1);
-    line(rt, b"no tables", &example, LONG, 0);
-    line(rt, b"tables one byte longer", &example, LONG, SIZE + 1);
-    again(rt, b"the example, then it cut short", &example, LONG, SHORT);
+    let short = &EXAMPLE[..SHORT];
+    line(rt, "the example", &EXAMPLE, SIZE)?;
+    line(rt, "the example, least above most", &crossed, SIZE)?;
+    line(rt, "the example cut short", short, SIZE)?;
+    line(rt, "the empty book", b"", SIZE)?;
+    line(rt, "tables one byte short", &EXAMPLE, SIZE - 1)?;
+    line(rt, "no tables", &EXAMPLE, 0)?;
+    line(rt, "tables one byte longer", &EXAMPLE, SIZE + 1)?;
+    again(rt, "the example, then it cut short", &EXAMPLE, short)
 }
 
+fn all(rt: &impl Print) -> io::Result<()> {
+    small(rt)?;
+    largest(rt)?;
+    too_large(rt)
+}
+
+// A line that can't be written ends the program, and leaves its status as it is.
 fn main(rt: HostRuntime) {
-    small(&rt);
-    largest(&rt);
-    too_large(&rt);
+    let _ = all(&rt);
 }

@@ -1,16 +1,14 @@
 // Books and letters by chance. All keywords of a book are parts of the same bytes, so that many are repeated, lie in one another, or
 // are suffixes of one another; and the letter is put together from parts of these bytes.
-use crate::chance::draw;
-use crate::list::{
-    BYTES, FROM, LAST, LEAST, LENGTH, LIST, MOST, NTH, NUMBER, OPEN, PIECES, byte_at, put,
-    put_byte, size,
-};
+use crate::chance::Chance;
+use crate::list::{Book, Gap, Piece};
+use std::alloc::{AllocError, Global};
 
 // How large the parts of a book are.
 #[derive(Clone, Copy)]
 pub(crate) struct Shape {
     // So many different bytes; with 0 nearly all are the same.
-    pub(crate) alphabet: u16,
+    pub(crate) alphabet: u8,
     // The length of a keyword, the phrases of a book and the pieces of a phrase, at most.
     pub(crate) longest: u16,
     pub(crate) phrases: u16,
@@ -21,32 +19,33 @@ pub(crate) struct Shape {
 
 // ── The bytes ──
 
-const FIRST_BYTE: u16 = 97;
+pub(crate) const BYTES: usize = 64;
+
+const FIRST_BYTE: u8 = 97;
 
 // One byte in so many differs, where nearly all are the same.
 const RARE: u16 = 64;
 
 // The last of the bytes lies in no keyword.
-const FOREIGN: u16 = 120;
+const FOREIGN: u8 = 120;
 
-fn drawn_byte(chance: &mut [u64; 1], alphabet: u16) -> u16 {
+fn drawn_byte(chance: &mut Chance, alphabet: u8) -> u8 {
     if alphabet > 0 {
-        return FIRST_BYTE + draw(chance, alphabet);
+        return FIRST_BYTE.wrapping_add(chance.draw(u16::from(alphabet)) as u8);
     }
-    if draw(chance, RARE) == 0 {
+    if chance.draw(RARE) == 0 {
         return FIRST_BYTE + 1;
     }
     FIRST_BYTE
 }
 
-fn put_bytes(list: &mut [u16; LIST], chance: &mut [u64; 1], alphabet: u16) {
-    let mut at = 0;
-    while at < BYTES {
-        let value = drawn_byte(chance, alphabet);
-        put_byte(list, at, value);
-        at += 1;
+pub(crate) fn drawn_bytes(chance: &mut Chance, alphabet: u8) -> [u8; BYTES] {
+    let mut bytes = [0u8; BYTES];
+    for byte in bytes.iter_mut() {
+        *byte = drawn_byte(chance, alphabet);
     }
-    put_byte(list, BYTES - 1, FOREIGN);
+    bytes[BYTES - 1] = FOREIGN;
+    bytes
 }
 
 // ── Gaps ──
@@ -55,48 +54,43 @@ const LARGEST_LEAST: u16 = 224;
 
 const LARGEST_MOST: u16 = 60000;
 
-fn least_of(chance: &mut [u64; 1], far: bool) -> u16 {
+fn drawn_least(chance: &mut Chance, far: bool) -> u16 {
     if far {
-        return LARGEST_LEAST - draw(chance, 25) % LARGEST_LEAST;
+        return LARGEST_LEAST - chance.draw(25) % LARGEST_LEAST;
     }
-    draw(chance, 5)
+    chance.draw(5)
 }
 
 // The least itself, the largest, one far above the least, or one near to it.
-fn most_of(chance: &mut [u64; 1], least: u16) -> u16 {
-    let kind = draw(chance, 4);
-    if kind == 0 {
-        return least;
+fn drawn_most(chance: &mut Chance, least: u16) -> u16 {
+    match chance.draw(4) {
+        0 => least,
+        1 => LARGEST_MOST,
+        2 => least % LARGEST_MOST + chance.draw(252) % 252,
+        _ => least % LARGEST_MOST + chance.draw(6),
     }
-    if kind == 1 {
-        return LARGEST_MOST;
-    }
-    if kind == 2 {
-        return least % LARGEST_MOST + draw(chance, 252) % 252;
-    }
-    least % LARGEST_MOST + draw(chance, 6)
 }
 
-fn put_gap(list: &mut [u16; LIST], chance: &mut [u64; 1], piece: usize, far: bool) {
-    let least = least_of(chance, far);
-    let most = most_of(chance, least);
-    let kind = draw(chance, 4);
-    put(list, piece, LEAST, least);
-    put(list, piece, MOST, most);
-    put(list, piece, OPEN, kind / 3);
+// One gap in four is open.
+fn drawn_gap(chance: &mut Chance, far: bool) -> Gap {
+    let least = drawn_least(chance, far);
+    let most = drawn_most(chance, least);
+    let open = chance.draw(4) == 3;
+    Gap {
+        least,
+        most: if open { None } else { Some(most) },
+    }
 }
 
-// Every second phrase may begin anywhere.
-fn put_gap_of(list: &mut [u16; LIST], chance: &mut [u64; 1], piece: usize, nth: usize, far: bool) {
+// The gap of a phrase's nth piece. Every second phrase may begin anywhere.
+fn drawn_gap_of(chance: &mut Chance, nth: usize, far: bool) -> Gap {
     if nth > 0 {
-        put_gap(list, chance, piece, far);
-        return;
+        return drawn_gap(chance, far);
     }
-    if draw(chance, 2) == 0 {
-        put(list, piece, OPEN, 1);
-        return;
+    if chance.draw(2) == 0 {
+        return Gap::ANYWHERE;
     }
-    put_gap(list, chance, piece, false);
+    drawn_gap(chance, false)
 }
 
 // ── Phrases ──
@@ -104,75 +98,68 @@ fn put_gap_of(list: &mut [u16; LIST], chance: &mut [u64; 1], piece: usize, nth: 
 // Phrase numbers that follow each other are at most so far apart.
 const APART: u16 = 300;
 
-fn length_of(chance: &mut [u64; 1], longest: u16) -> u16 {
-    if draw(chance, 4) == 0 {
-        return longest;
+fn drawn_length(chance: &mut Chance, longest: u16) -> usize {
+    if chance.draw(4) == 0 {
+        return usize::from(longest);
     }
-    1 + draw(chance, longest)
+    1 + chance.draw_size(longest)
 }
 
-fn put_piece(
-    list: &mut [u16; LIST],
-    chance: &mut [u64; 1],
+// A part of the bytes.
+fn drawn_keyword(
+    alloc: Global,
+    chance: &mut Chance,
+    longest: u16,
+    bytes: &[u8; BYTES],
+) -> Result<Vec<u8>, AllocError> {
+    let from = chance.draw_size(longest);
+    let length = drawn_length(chance, longest);
+    bytes.iter().copied().skip(from).take(length).collect(alloc)
+}
+
+// The pieces of one phrase more.
+fn push_phrase(
+    alloc: Global,
+    pieces: &mut Vec<Piece>,
+    chance: &mut Chance,
     shape: Shape,
-    piece: usize,
-    nth: usize,
+    bytes: &[u8; BYTES],
     number: u16,
-) {
-    put_gap_of(list, chance, piece, nth, shape.far);
-    let from = draw(chance, shape.longest);
-    let length = length_of(chance, shape.longest);
-    put(list, piece, FROM, from);
-    put(list, piece, LENGTH, length);
-    put(list, piece, NUMBER, number);
-    put(list, piece, NTH, (nth % PIECES) as u16);
+) -> Result<(), AllocError> {
+    let last = chance.draw_size(shape.pieces);
+    for nth in 0..=last {
+        let gap = drawn_gap_of(chance, nth, shape.far);
+        let keyword = drawn_keyword(alloc, chance, shape.longest, bytes)?;
+        pieces.push(Piece {
+            number,
+            nth,
+            last: nth == last,
+            gap,
+            keyword,
+        })?;
+    }
+    Ok(())
 }
 
-// Answers where the next phrase begins.
-fn put_phrase(
-    list: &mut [u16; LIST],
-    chance: &mut [u64; 1],
+pub(crate) fn drawn_book(
+    alloc: Global,
+    chance: &mut Chance,
     shape: Shape,
-    first: usize,
-    number: u16,
-) -> usize {
-    let last = size(draw(chance, shape.pieces));
-    if first >= PIECES {
-        return first;
-    }
-    let mut nth = 0;
-    while nth <= last {
-        put_piece(list, chance, shape, first + nth, nth, number);
-        nth += 1;
-    }
-    put(list, first + last, LAST, 1);
-    first + last + 1
-}
-
-// What the list holds.
-#[derive(Clone, Copy)]
-pub(crate) struct Size {
-    pub(crate) phrases: usize,
-    pub(crate) pieces: usize,
-}
-
-pub(crate) fn put_book(list: &mut [u16; LIST], chance: &mut [u64; 1], shape: Shape) -> Size {
-    put_bytes(list, chance, shape.alphabet);
-    let phrases = 1 + size(draw(chance, shape.phrases));
+    bytes: &[u8; BYTES],
+) -> Result<Book, AllocError> {
+    let phrases = 1 + chance.draw(shape.phrases);
+    let mut pieces = Vec::new(alloc);
     let mut number = 0u16;
-    let mut pieces = 0;
-    let mut n = 0;
-    while n < phrases {
-        let more = 1 + draw(chance, APART);
-        number = std::num::wrapping_add_u16(number, more);
-        pieces = put_phrase(list, chance, shape, pieces, number);
-        n += 1;
+    for _ in 0..phrases {
+        number = number.wrapping_add(1 + chance.draw(APART));
+        push_phrase(alloc, &mut pieces, chance, shape, bytes, number)?;
     }
-    Size { phrases, pieces }
+    Ok(Book { phrases, pieces })
 }
 
 // ── Letters ──
 
+// So many bytes are drawn for a letter, which has some of them.
 pub(crate) const LETTER: usize = 512;
 
 const LENGTHS: u16 = 61;
@@ -182,38 +169,34 @@ const FAR_LENGTH: usize = 300;
 
 const FAR_LENGTHS: u16 = 200;
 
-const BYTE: u16 = 256;
-
-pub(crate) fn letter_length(chance: &mut [u64; 1], far: bool) -> usize {
+fn drawn_letter_length(chance: &mut Chance, far: bool) -> usize {
     if far {
-        return FAR_LENGTH + size(draw(chance, FAR_LENGTHS));
+        return FAR_LENGTH + chance.draw_size(FAR_LENGTHS);
     }
-    size(draw(chance, LENGTHS))
+    chance.draw_size(LENGTHS)
 }
 
 // Mostly the place after, else one where keywords may begin, at times any.
-fn next_place(chance: &mut [u64; 1], place: usize, longest: u16) -> usize {
-    let kind = draw(chance, 8);
-    if kind == 0 {
-        return size(draw(chance, BYTES as u16));
+fn next_place(chance: &mut Chance, place: usize, longest: u16) -> usize {
+    match chance.draw(8) {
+        0 => chance.draw_size(BYTES as u16),
+        1 => chance.draw_size(longest),
+        _ => place % BYTES + 1,
     }
-    if kind == 1 {
-        return size(draw(chance, longest));
-    }
-    place % BYTES + 1
 }
 
-pub(crate) fn put_letter(
-    letter: &mut [u8; LETTER],
-    chance: &mut [u64; 1],
-    list: &[u16; LIST],
-    longest: u16,
-) {
+pub(crate) fn drawn_letter(
+    alloc: Global,
+    chance: &mut Chance,
+    shape: Shape,
+    bytes: &[u8; BYTES],
+) -> Result<Vec<u8>, AllocError> {
+    let mut letter = Vec::new(alloc);
     let mut place = 0;
-    let mut at = 0;
-    while at < LETTER {
-        letter[at] = (byte_at(list, place % BYTES) % BYTE) as u8;
-        place = next_place(chance, place, longest);
-        at += 1;
+    for _ in 0..LETTER {
+        letter.push(bytes[place % BYTES])?;
+        place = next_place(chance, place, shape.longest);
     }
+    letter.truncate(drawn_letter_length(chance, shape.far));
+    Ok(letter)
 }

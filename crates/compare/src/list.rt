@@ -1,113 +1,77 @@
-// The list that a book is written from, and that the second matcher reads: a row of numbers for each piece, in the book's order, and
-// then the bytes that keywords are parts of.
-ghost use Rattle.std.specs.Prelude.{◌≡◌, ◌<◌};
+// A book as a list of its pieces, that its bytes are written from and that the second matcher reads.
+use sheet::Sheet;
 
-pub(crate) const LIST: usize = 320;
-
-// So many rows of so many numbers.
-pub(crate) const PIECES: usize = 32;
-
-const ROW: usize = 8;
-
-// The number of the piece's phrase.
-pub(crate) const NUMBER: usize = 0;
-
-// Which piece of its phrase it is, from 0.
-pub(crate) const NTH: usize = 1;
-
-// 1 for the last piece of its phrase.
-pub(crate) const LAST: usize = 2;
-
-// The gap: 1 for an open one.
-pub(crate) const OPEN: usize = 3;
-
-pub(crate) const LEAST: usize = 4;
-
-pub(crate) const MOST: usize = 5;
-
-// The keyword: so many of the bytes, from one of them on.
-pub(crate) const FROM: usize = 6;
-
-pub(crate) const LENGTH: usize = 7;
-
-const BYTES_AT: usize = 256;
-
-pub(crate) const BYTES: usize = 64;
-
-// ── Wider numbers, with their bounds ──
-
-pub(crate) fn byte(x: u8) -> u16
-    ensures { (result ≡ x) × (result < 256) }
-{
-    x as u16
+// The gap before a piece: so many bytes at least, and so many at most, or any number where it is open.
+#[derive(Clone, Copy)]
+pub(crate) struct Gap {
+    pub(crate) least: u16,
+    pub(crate) most: Option<u16>,
 }
 
-pub(crate) fn size(x: u16) -> usize
-    ensures { (result ≡ x) × (result < 65536) }
-{
-    x as usize
-}
+impl Gap {
+    // The gap before a phrase that begins anywhere.
+    pub(crate) const ANYWHERE: Gap = Gap {
+        least: 0,
+        most: None,
+    };
 
-pub(crate) fn wide(x: u16) -> u64
-    ensures { (result ≡ x) × (result < 65536) }
-{
-    x as u64
-}
-
-pub(crate) fn four(x: u32) -> u64
-    ensures { (result ≡ x) × (result < 4294967296) }
-{
-    x as u64
-}
-
-// ── The list ──
-
-// A number of a piece; 0 outside of the list.
-pub(crate) fn get(list: &[u16; LIST], piece: usize, column: usize) -> u16 {
-    if piece >= PIECES {
-        return 0;
+    // Whether it may have so many bytes.
+    pub(crate) fn admits(self, width: usize) -> bool {
+        if width < usize::from(self.least) {
+            return false;
+        }
+        match self.most {
+            Some(most) => width <= usize::from(most),
+            None => true,
+        }
     }
-    if column >= ROW {
-        return 0;
-    }
-    list[ROW * piece + column]
 }
 
-// What falls outside of the list is left out.
-pub(crate) fn put(list: &mut [u16; LIST], piece: usize, column: usize, value: u16) {
-    if piece >= PIECES {
-        return;
-    }
-    if column >= ROW {
-        return;
-    }
-    list[ROW * piece + column] = value;
+#[derive(Drop)]
+pub(crate) struct Piece {
+    // the number of its phrase
+    pub(crate) number: u16,
+    // which piece of its phrase it is, from 0, and whether it is the last one
+    pub(crate) nth: usize,
+    pub(crate) last: bool,
+    pub(crate) gap: Gap,
+    pub(crate) keyword: Vec<u8>,
 }
 
-pub(crate) fn byte_at(list: &[u16; LIST], at: usize) -> u16 {
-    if at >= BYTES {
-        return 0;
-    }
-    list[BYTES_AT + at]
+// So many phrases, and their pieces one after the other.
+#[derive(Drop)]
+pub(crate) struct Book {
+    pub(crate) phrases: u16,
+    pub(crate) pieces: Vec<Piece>,
 }
 
-pub(crate) fn put_byte(list: &mut [u16; LIST], at: usize, value: u16) {
-    if at >= BYTES {
-        return;
+// ── Its bytes ──
+
+// Room for the longest of them.
+pub(crate) type Written = Sheet<2048>;
+
+const RIGHTS: usize = 12;
+
+// Piece n of the book, behind a phrase record where it is the first of its phrase.
+fn write_piece(sheet: &mut Written, n: usize, piece: &Piece) {
+    if piece.nth == 0 {
+        sheet.phrase(piece.number, (n % RIGHTS + 1) as u8);
     }
-    list[BYTES_AT + at] = value;
+    match piece.gap.most {
+        Some(most) => sheet.bounded(piece.gap.least, most),
+        None => sheet.open(piece.gap.least),
+    }
+    sheet.keyword(&piece.keyword);
 }
 
-pub(crate) fn length(list: &[u16; LIST], piece: usize) -> usize
-    ensures { result < 65536 }
-{
-    size(get(list, piece, LENGTH))
-}
-
-// A byte of the piece's keyword.
-pub(crate) fn keyword_byte(list: &[u16; LIST], piece: usize, i: usize) -> u16 {
-    if i >= BYTES {
-        return 0;
+impl Book {
+    pub(crate) fn written(&self) -> Written {
+        let mut sheet = Written::new();
+        sheet.header(1);
+        for (n, piece) in self.pieces.iter().enumerate() {
+            write_piece(&mut sheet, n, piece);
+        }
+        sheet.end(self.phrases);
+        sheet
     }
-    byte_at(list, size(get(list, piece, FROM)) + i)
 }

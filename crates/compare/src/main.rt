@@ -11,24 +11,21 @@ mod list;
 mod matcher;
 mod room;
 mod steps;
-mod written;
+mod ways;
 
-use books::{LETTER, Shape, Size};
-use builder::Built;
-use calls::Feeding;
-use chance::draw;
-use due::DUE;
-use lines::{COUNTS, Spot};
-use list::{LIST, size};
+use books::{LETTER, Shape};
+use calls::{Case, TABLES};
+use chance::Chance;
+use lines::{Counts, Spot, add, compare};
+use list::Book;
+use std::alloc::Global;
+use std::io;
+use ways::{Parts, Room, Way};
 
 // So many books, each with a letter.
 const CASES: u64 = 400;
 
 const SEED: u64 = 7;
-
-const BOOK: usize = 2048;
-
-const TABLES: usize = 49152;
 
 // What the table memory holds before.
 const OLD: u8 = 0xAA;
@@ -44,7 +41,7 @@ const ALPHABETS: u64 = 4;
 
 fn shape_of(case: u64) -> Shape {
     let kind = (case % SHAPES) as u16;
-    let alphabet = (case / SHAPES % ALPHABETS) as u16;
+    let alphabet = (case / SHAPES % ALPHABETS) as u8;
     if kind == 7 {
         return Shape {
             alphabet: 0,
@@ -65,48 +62,39 @@ fn shape_of(case: u64) -> Shape {
 
 // ── The book ──
 
-// The length of a book that is taken, 0 for one that is refused.
-fn built(book: &[u8], end: usize, tables: &mut [u8]) -> usize {
-    if end > book.len() {
-        return 0;
-    }
-    let answer = builder::build(&book[..end], tables);
-    let Built::Done { length } = answer else {
-        return 0;
-    };
-    length
+// The length of a book that is taken; none for one that is refused.
+fn built(book: &[u8], tables: &mut [u8]) -> Option<usize> {
+    builder::build(book, tables).ok()
 }
 
-// Every book here must be taken.
+// The tables of the book. Every book here must be taken: a refused one stands in the line with length 0.
 fn build_book(
     rt: &impl Print,
-    counts: &mut [u64; COUNTS],
+    counts: &mut Counts,
     case: u64,
-    list: &[u16; LIST],
-    size: Size,
-    tables: &mut [u8],
-) {
-    let mut book = [0u8; BOOK];
-    let end = written::write(&mut book, list, size.pieces, size.phrases);
-    let length = built(&book, end, tables);
+    book: &Book,
+) -> io::Result<[u8; TABLES]> {
+    let mut tables = [OLD; TABLES];
+    let sheet = book.written();
+    let written = sheet.as_slice();
+    let length = built(written, &mut tables).unwrap_or(0);
     let spot = Spot {
         case,
-        way: WAYS,
+        way: None,
         after: 0,
     };
-    lines::compare(
+    compare(
         rt,
         counts,
         spot,
-        b" length of the book",
-        end as u64,
+        "length of the book",
+        written.len() as u64,
         length as u64,
-    );
+    )?;
+    Ok(tables)
 }
 
-// ── Ways to feed ──
-
-const WAYS: u64 = 6;
+// ── Cases ──
 
 // The larger room has up to so many numbers more than the least one; in every second case so many on top, so that one call mostly
 // takes a short letter whole.
@@ -114,123 +102,65 @@ const MORE: u16 = 100;
 
 const ALL: usize = 900;
 
-fn more_room(chance: &mut [u64; 1], case: u64) -> usize {
-    let more = size(draw(chance, MORE));
+fn drawn_more(chance: &mut Chance, case: u64) -> usize {
+    let more = chance.draw_size(MORE);
     if case % 2 == 0 {
         return ALL + more;
     }
     more
 }
 
-fn all_ways(
+// A book, and a letter for it.
+fn drawn_case(
     rt: &impl Print,
-    counts: &mut [u64; COUNTS],
-    feeding: Feeding,
-    due: &[u64; DUE],
-    tables: &[u8],
-    letter: &[u8],
-) {
-    let mut way = 0;
-    while way < WAYS {
-        let this = Feeding {
-            case: feeding.case,
-            way,
-            phrases: feeding.phrases,
-            more: feeding.more,
-            cut: feeding.cut,
-        };
-        calls::feed_letter(rt, counts, this, due, tables, letter);
-        way += 1;
-    }
-}
-
-// ── Cases ──
-
-fn compare_case(
-    rt: &impl Print,
-    counts: &mut [u64; COUNTS],
-    list: &[u16; LIST],
-    size: Size,
-    feeding: Feeding,
-    letter: &[u8],
-) {
-    let mut due = [0u64; DUE];
-    let mut tables = [OLD; TABLES];
-    due::find_due(counts, list, letter, &mut due, size.pieces);
-    build_book(rt, counts, feeding.case, list, size, &mut tables);
-    all_ways(rt, counts, feeding, &due, &tables, letter);
-    lines::add(counts, lines::CASES, 1);
-    lines::add(counts, lines::PHRASES, size.phrases as u64);
-    lines::add(counts, lines::PIECES, size.pieces as u64);
-    lines::add(counts, lines::BYTES, letter.len() as u64);
-}
-
-// The letter has only so many of the bytes.
-fn compare_first(
-    rt: &impl Print,
-    counts: &mut [u64; COUNTS],
-    list: &[u16; LIST],
-    size: Size,
-    feeding: Feeding,
-    bytes: &[u8],
-    length: usize,
-) {
-    if length > bytes.len() {
-        return;
-    }
-    compare_case(rt, counts, list, size, feeding, &bytes[..length]);
-}
-
-fn compare_bytes(
-    rt: &impl Print,
-    counts: &mut [u64; COUNTS],
-    list: &[u16; LIST],
-    size: Size,
-    feeding: Feeding,
-    bytes: &[u8; LETTER],
-    length: usize,
-) {
-    compare_first(rt, counts, list, size, feeding, bytes, length);
-}
-
-// A letter for the book.
-fn with_letter(
-    rt: &impl Print,
-    counts: &mut [u64; COUNTS],
-    chance: &mut [u64; 1],
-    case: u64,
-    list: &[u16; LIST],
-    book: Size,
-    shape: Shape,
-) {
-    let mut bytes = [0u8; LETTER];
-    books::put_letter(&mut bytes, chance, list, shape.longest);
-    let length = books::letter_length(chance, shape.far);
-    let more = more_room(chance, case);
-    let feeding = Feeding {
-        case,
-        way: 0,
-        phrases: book.phrases,
+    alloc: Global,
+    counts: &mut Counts,
+    chance: &mut Chance,
+    number: u64,
+) -> io::Result<Case> {
+    let shape = shape_of(number);
+    let bytes = books::drawn_bytes(chance, shape.alphabet);
+    let book = books::drawn_book(alloc, chance, shape, &bytes)?;
+    let letter = books::drawn_letter(alloc, chance, shape, &bytes)?;
+    let more = drawn_more(chance, number);
+    let cut = chance.draw_size((letter.len() % LETTER + 1) as u16);
+    let due = due::find_due(alloc, counts, &book, &letter)?;
+    let tables = build_book(rt, counts, number, &book)?;
+    add(&mut counts.cases, 1);
+    add(&mut counts.phrases, u64::from(book.phrases));
+    add(&mut counts.pieces, book.pieces.len() as u64);
+    add(&mut counts.bytes, letter.len() as u64);
+    Ok(Case {
+        number,
+        phrases: usize::from(book.phrases),
+        tables,
+        letter,
+        due,
         more,
-        cut: size(draw(chance, (length % LETTER + 1) as u16)),
-    };
-    compare_bytes(rt, counts, list, book, feeding, &bytes, length);
+        cut,
+    })
 }
 
-fn one_case(rt: &impl Print, counts: &mut [u64; COUNTS], chance: &mut [u64; 1], case: u64) {
-    let mut list = [0u16; LIST];
-    let shape = shape_of(case);
-    let book = books::put_book(&mut list, chance, shape);
-    with_letter(rt, counts, chance, case, &list, book, shape);
-}
-
-fn main(rt: HostRuntime) {
-    let mut counts = [0u64; COUNTS];
-    let mut chance = [SEED; 1];
-    let mut case = 0;
-    while case < CASES {
-        one_case(&rt, &mut counts, &mut chance, case);
-        case += 1;
+fn all_ways(rt: &impl Print, counts: &mut Counts, case: &Case) -> io::Result<()> {
+    for room in [Room::Least, Room::Larger] {
+        for parts in [Parts::Whole, Parts::Bytes, Parts::Two] {
+            case.feed(rt, counts, Way { parts, room })?;
+        }
     }
-    lines::summary(&rt, &counts);
+    Ok(())
+}
+
+fn all(rt: &impl Print, alloc: Global) -> io::Result<()> {
+    let mut counts = Counts::default();
+    let mut chance = Chance(SEED);
+    for number in 0..CASES {
+        let case = drawn_case(rt, alloc, &mut counts, &mut chance, number)?;
+        all_ways(rt, &mut counts, &case)?;
+    }
+    lines::summary(rt, &counts)
+}
+
+// A line that can't be written ends the program, and leaves its status as it is.
+fn main(rt: HostRuntime) {
+    let _ = all(&rt, rt.alloc());
 }

@@ -1,7 +1,7 @@
 // The reports in the room, held against what is due.
-use crate::due::{COUNT, DUE, MOST_NUMBERS, NUMBERS, due_at};
-use crate::lines::{COUNTS, Spot, compare};
-use crate::list::four;
+use crate::due::Due;
+use crate::lines::{Counts, Spot, compare};
+use std::io;
 
 // Room for 512 reports, and an odd last element.
 pub(crate) const ROOM: usize = 1025;
@@ -9,101 +9,63 @@ pub(crate) const ROOM: usize = 1025;
 // What it holds before each call.
 pub(crate) const UNTOUCHED: u32 = 4294967295;
 
-fn in_room(room: &[u32; ROOM], at: usize) -> u64 {
-    if at >= ROOM {
-        return 0;
-    }
-    four(room[at])
-}
-
 fn compare_report(
     rt: &impl Print,
-    counts: &mut [u64; COUNTS],
+    counts: &mut Counts,
     spot: Spot,
-    room: &[u32; ROOM],
-    slot: usize,
-    number: u64,
+    number: u16,
     place: usize,
-) {
-    compare(rt, counts, spot, b" phrase", number, in_room(room, slot));
-    let second = std::num::wrapping_add_usize(slot, 1);
+    found: [u32; 2],
+) -> io::Result<()> {
+    let [phrase, at] = found;
     compare(
         rt,
         counts,
         spot,
-        b" place",
-        place as u64,
-        in_room(room, second),
-    );
+        "phrase",
+        u64::from(number),
+        u64::from(phrase),
+    )?;
+    compare(rt, counts, spot, "place", place as u64, u64::from(at))
 }
 
-// The reports of one place; answers where the next ones begin.
-fn compare_place(
+// The reports up to a place stand in the room one after the other.
+pub(crate) fn compare_reports(
     rt: &impl Print,
-    counts: &mut [u64; COUNTS],
+    counts: &mut Counts,
     spot: Spot,
-    due: &[u64; DUE],
-    room: &[u32; ROOM],
-    slot: usize,
-    place: usize,
-) -> usize {
-    let mut next = slot;
-    let mut i = 0usize;
-    while i < MOST_NUMBERS {
-        if i as u64 >= due_at(due, place, COUNT) {
-            return next;
-        }
-        compare_report(
-            rt,
-            counts,
-            spot,
-            room,
-            next,
-            due_at(due, place, NUMBERS + i),
-            place,
-        );
-        next = std::num::wrapping_add_usize(next, 2);
-        i += 1;
-    }
-    next
-}
-
-pub(crate) fn compare_places(
-    rt: &impl Print,
-    counts: &mut [u64; COUNTS],
-    spot: Spot,
-    due: &[u64; DUE],
+    due: &Due,
     room: &[u32; ROOM],
     upto: usize,
-) -> usize {
-    let mut slot = 0;
-    let mut place = spot.after;
-    while place < upto {
-        place += 1;
-        slot = compare_place(rt, counts, spot, due, room, slot, place);
+) -> io::Result<()> {
+    let (pairs, _) = room.as_chunks::<2>();
+    let mut found = pairs.iter();
+    for (n, place) in due.between(spot.after, upto).iter().enumerate() {
+        let at = spot.after.wrapping_add(n).wrapping_add(1);
+        for number in place.numbers.iter() {
+            let report = found.next().copied().unwrap_or([0, 0]);
+            compare_report(rt, counts, spot, *number, at, report)?;
+        }
     }
-    slot
+    Ok(())
 }
 
 // Room past the reports is unchanged.
 pub(crate) fn compare_rest(
     rt: &impl Print,
-    counts: &mut [u64; COUNTS],
+    counts: &mut Counts,
     spot: Spot,
-    room: &[u32; ROOM],
-    first: usize,
-    slots: usize,
-) {
-    let mut slot = first;
-    while slot < slots {
+    rest: &[u32],
+) -> io::Result<()> {
+    for found in rest {
         compare(
             rt,
             counts,
             spot,
-            b" room past the reports",
-            four(UNTOUCHED),
-            in_room(room, slot),
-        );
-        slot += 1;
+            "room past the reports",
+            u64::from(UNTOUCHED),
+            u64::from(*found),
+        )?;
     }
+    Ok(())
 }

@@ -1,5 +1,0 @@
-use Rattle.std.proofs.Common.{◌-◌}
-use Rattle.compare.proofs.matcher.fills.Given as goal
-
-abbrev pub decreases-loop-i : goal.decreases-loop-i
-decreases-loop-i l = l.long - l.i

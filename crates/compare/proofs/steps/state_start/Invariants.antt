@@ -1,5 +1,0 @@
-use Rattle.std.proofs.Common.{◌-◌}
-use Rattle.compare.proofs.steps.state_start.Given as goal
-
-abbrev pub decreases-loop-start : goal.decreases-loop-start
-decreases-loop-start l = l.end - l.start
