@@ -9,19 +9,21 @@ use lib.Dec.{leb, ltb, eqb}
 use lib.ListN.{length, drop, get_or, length-take, length-drop}
 use borrow.Author.Tests.{leb-false, ltb-false, lt-ltb, le-ltb}
 use Rattle.meaning.specs.Matching.{bytes_after}
-use Rattle.format.specs.Prefixes.{most_shared}
+use Rattle.format.specs.Prefixes.{common_prefix, most_shared}
 use Rattle.format.specs.Refusals.{cut, kind}
 use Rattle.format.specs.Written.{header_kind, phrase_kind, bounded_kind, open_kind, end_kind}
 use Rattle.format.specs.Faults.{body_length}
 use Rattle.format.proofs.Shared.{shared_short}
-use Rattle.std.proofs.Common.{Result}
+use Rattle.std.proofs.Common.{Result, Ok, Err}
+use Rattle.records.specs.declared.records.Cursor.{Cursor}
 use Rattle.records.specs.declared.records.Record.{Record}
+use Rattle.records.specs.declared.records.Record.TheVariants.{Header, Phrase, Bounded, Open, Keyword, End}
 use Rattle.records.specs.declared.records.Found.{Found}
 use Rattle.records.specs.declared.refusals.Refused.{Refused}
 use Rattle.records.specs.Kinds.{known}
 use Rattle.records.specs.Records.{whole, nothing, body_at, record_for, whole_at, found_as, read_at}
 use Rattle.records.specs.Readers.{past_of}
-use Rattle.records.specs.Prefixes.{Lies, Inside, keyword_in, keywords_from, keywords_before}
+use Rattle.records.specs.Prefixes.{Lies, Inside, keyword_of, keyword_in, keywords_from, keywords_before}
 
 -- ── Where the next record is ──
 
@@ -76,6 +78,34 @@ shared_append : (vs ws : List (List ℕ)) (w : List ℕ) → most_shared (vs ++ 
 unfolding most_shared
 shared_append [] ws w = omega arith
 shared_append (v ∷ vs) ws w = omega (arith, shared_append vs ws w)
+
+-- A keyword shares what is common.
+pub said_shared : (bytes w : List ℕ) {says : Record} {start count : ℕ} → says ≡ Keyword start count
+    → {shared : ℕ} → shared ≡ common_prefix w (bytes_after start count bytes) → shared ≡ most_shared (keyword_of bytes says) w
+unfolding most_shared keyword_of
+said_shared bytes w is e = rw is (omega (arith, e))
+
+pub keyword_shared : (bytes w : List ℕ) {found : Result Found Refused} {start count : ℕ} {next : Cursor} → found ≡ Ok (record { says = Keyword start count; next = next })
+    → {shared : ℕ} → shared ≡ common_prefix w (bytes_after start count bytes) → shared ≡ most_shared (keyword_in bytes found) w
+unfolding most_shared keyword_in
+keyword_shared bytes w is e = rw is (omega (arith, e))
+
+-- What is no keyword shares nothing.
+pub other_shared : (bytes w : List ℕ) (says : Record) → ((start count : ℕ) → says ≡ Keyword start count → ⊥) → 0 ≡ most_shared (keyword_of bytes says) w
+unfolding most_shared keyword_of
+other_shared bytes w (Header edition) is = refl
+other_shared bytes w (Phrase number rights) is = refl
+other_shared bytes w (Bounded least most) is = refl
+other_shared bytes w (Open least) is = refl
+other_shared bytes w (Keyword start count) is = absurd (is start count refl)
+other_shared bytes w (End count) is = refl
+
+pub nothing_shared : (bytes w : List ℕ) (found : Result Found Refused)
+    → ((start count : ℕ) (next : Cursor) → found ≡ Ok (record { says = Keyword start count; next = next }) → ⊥) → 0 ≡ most_shared (keyword_in bytes found) w
+unfolding most_shared keyword_in
+nothing_shared bytes w (Ok found) is =
+    other_shared bytes w found.says (λ start count e. is start count found.next (ap {B = Result Found Refused} (λ (says : Record). Ok (record { says = says; next = found.next })) e))
+nothing_shared bytes w (Err refused) is = refl
 
 module _ (bytes : List ℕ) (end : ℕ) where
   pub more_records : (n at : ℕ) → at < end → keywords_from (suc n) bytes end at ≡ keyword_in bytes (read_at bytes at) ++ keywords_from n bytes end (past_of (read_at bytes at) end)

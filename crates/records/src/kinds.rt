@@ -3,15 +3,15 @@ ghost use Rattle.std.specs.Prelude.{◌≡◌, ◌<◌};
 ghost use Rattle.format.specs.Faults.{body_length};
 ghost use Rattle.records.specs.Kinds.{byte_of, Reads};
 
-const HEADER_KIND: u8 = 0x01;
+pub const HEADER_KIND: u8 = 0x01;
 
-const PHRASE_KIND: u8 = 0x02;
+pub const PHRASE_KIND: u8 = 0x02;
 
-const BOUNDED_KIND: u8 = 0x03;
+pub const BOUNDED_KIND: u8 = 0x03;
 
-const OPEN_KIND: u8 = 0x04;
+pub const OPEN_KIND: u8 = 0x04;
 
-const END_KIND: u8 = 0x7F;
+pub const END_KIND: u8 = 0x7F;
 
 // The kind of a keyword is 80 hex and its length: 1 for the shortest, 32 for the longest.
 const KEYWORD_BASE: u8 = 0x80;
@@ -32,9 +32,9 @@ const OPEN_BODY: usize = 2;
 const END_BODY: usize = 2;
 
 // Where the last field of a phrase and of a bounded gap stands, counted from the kind byte. The first one stands behind it.
-pub(crate) const RIGHTS_AT: usize = 3;
+pub const RIGHTS_AT: usize = 3;
 
-pub(crate) const MOST_AT: usize = 3;
+pub const MOST_AT: usize = 3;
 
 // What a record is.
 #[derive(Clone, Copy, Debug, PartialEq, Eq)]

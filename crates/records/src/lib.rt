@@ -2,11 +2,11 @@
 // keyword shares with those before it.
 #![tactic(auto)]
 
-mod kinds;
+pub mod kinds;
 mod prefixes;
 mod reader;
-mod records;
-mod refusals;
+pub mod records;
+pub mod refusals;
 
 pub use kinds::Kind;
 pub use prefixes::most_shared;

@@ -23,7 +23,6 @@ fn common(keyword: &[u8], other: &[u8]) -> usize
 }
 
 // How many bytes a keyword shares with what a record says: none where that is no keyword.
-#[tactic(auto, using(crate::proofs::Common::lent_bytes), unfolding(crate::specs::Prefixes::keyword_of, format::specs::Prefixes::most_shared))]
 fn shared_with(book: &[u8], keyword: &[u8], says: Record) -> usize
     requires inside { Lies book.now says }
     ensures { result ≡ most_shared (keyword_of book.now says) keyword.now }
