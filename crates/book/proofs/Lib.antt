@@ -1,4 +1,5 @@
 pub mod Tests
+pub mod OneTurn
 pub mod Tallied
 pub mod TurnByTests
 pub mod Agree

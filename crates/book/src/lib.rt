@@ -1,9 +1,9 @@
 // The phrase book: judge, which says whether the lent bytes are a book within the limits or why and where they are refused.
 #![tactic(auto)]
 
-mod answers;
+pub mod answers;
 mod gaps;
-mod judging;
+pub mod judging;
 mod limits;
 mod phrases;
 mod progress;

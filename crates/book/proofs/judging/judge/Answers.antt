@@ -32,6 +32,7 @@ returns-in_err-reached c =
     let found = found_here c.loop-reader.invariant.0 c.next-found.ensures.0 in
     let why = c.in_err-reached.field-0.0.why in
     let turned : c.turn_at.result ≡ Err why = search rules in
+    let here : c.in_err-reached.field-0.0.at ≡ c.loop-reader.reader.at = search rules in
     let answered : c.from_residual.result ≡ Err (record { why = why; at = c.loop-reader.reader.at }) = search rules in
     rw answered
     (refused_as book (all_bytes book (λ i. omega (arith, c.type_inv.book i))) c.loop-reader.reader.at c.loop-reader.invariant.1 c.loop-reader-test.true
