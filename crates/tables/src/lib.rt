@@ -44,6 +44,22 @@ pub fn passes(t: &[u8]) -> bool
     Tables::of(t).counts_pass()
 }
 
+// The number in the cell with an index of the column that begins at an offset. The column is a part of the memory.
+fn cell_with(t: &[u8], column: usize, index: usize) -> usize
+    requires { column + 2 * index + 2 ≤ length t.now }
+    ensures { (result ≡ cell_in t.now column index) × (result < 65536) }
+{
+    usize::from(lent::get2(&t[column..], 2 * index))
+}
+
+// The number in a state's cell of the column that begins at an offset: the next state. Bytes of any length are read, where the cell lies in them.
+pub fn cell(t: &[u8], column: usize, state: State) -> usize
+    requires { column + 2 * state.0 + 2 ≤ length t.now }
+    ensures { (result ≡ cell_in t.now column state.0) × (result < 65536) }
+{
+    cell_with(t, column, state.index())
+}
+
 // Table memory of the published size, or longer, to be read. Clauses see its bytes.
 #[derive(Drop)]
 pub struct Tables<'a> {
@@ -130,12 +146,12 @@ impl<'a> Tables<'a> {
         usize::from(lent::get2(&self.bytes[layout::COLUMN..], 2 * usize::from(byte)))
     }
 
-    // The number in a state's cell of the column that begins at an offset: the next state. The column is a part of the memory.
+    // The number in a state's cell of the column that begins at an offset.
     pub fn cell(&self, column: usize, state: State) -> usize
         requires { column + 2 * state.0 + 2 ≤ length self.now }
         ensures { (result ≡ cell_in self.now column state.0) × (result < 65536) }
     {
-        self.cell_at(column, state.index())
+        cell(self.bytes, column, state)
     }
 
     // The same by the state's index, which the loops over bytes carry along.
@@ -143,7 +159,7 @@ impl<'a> Tables<'a> {
         requires { column + 2 * index + 2 ≤ length self.now }
         ensures { (result ≡ cell_in self.now column index) × (result < 65536) }
     {
-        usize::from(lent::get2(&self.bytes[column..], 2 * index))
+        cell_with(self.bytes, column, index)
     }
 
     // How many failures lead from a state to the root.
