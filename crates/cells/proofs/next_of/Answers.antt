@@ -1,6 +1,6 @@
 -- The three ends are the child, the root and the failure of the definition.
 -- Assumes nothing.
-use mathlib.Core.Path.{◌≡◌, refl, sym, ◌∙◌}
+use mathlib.Core.Path.{◌≡◌, refl, sym}
 use mathlib.Core.Bool.{true, false}
 use native.Mathlib.Omega.{arith}
 use lib.Dec.{eqb}
@@ -15,7 +15,7 @@ returns-in-Some c =
     let a = c.args in
     let found = c.in-Some in
     let child : child_by_in a.t.now a.states a.state.0 a.column.byte ≡ 0 → ⊥ = λ e. omega (arith, e, found.ensures.value, found.ensures.bounds) in
-    rw (ne_eqb (child_by_in a.t.now a.states a.state.0 a.column.byte) 0 child) (c.index.ensures.0 ∙ found.ensures.value, omega arith)
+    rw (ne_eqb (child_by_in a.t.now a.states a.state.0 a.column.byte) 0 child) (simp (c.index.ensures.0, found.ensures.value), omega arith)
 
 pub returns-then-eq : goal.returns-then-eq
 unfolding next_for
