@@ -1,6 +1,6 @@
 -- What is found for a byte, one state after the other: a row decides it, a child decides it, or the failure goes on with a smaller number.
 -- Assumes nothing.
-use mathlib.Core.Path.{◌≡◌, refl, ◌∙◌}
+use mathlib.Core.Path.{◌≡◌, refl, sym, ap, ◌∙◌}
 use mathlib.Core.Bool.{Bool, true, false, cond}
 use mathlib.Core.List.{List}
 use Prim.Native.Nat.{ℕ, zero, suc, ◌≤◌, ◌<◌}
@@ -11,6 +11,12 @@ use Rattle.tables.specs.Reads.{cell_in, back_in}
 use Rattle.tables.proofs.Followed.{back_below}
 use Rattle.stepping.specs.Steps.{child_by_in}
 use Rattle.seeking.specs.Quick.{column_for, last_column, has_column, row_in, rows_end, sought_within, sought_in}
+
+-- The number at which the walk goes on is that of the failure, and smaller.
+pub smaller : (t : List ℕ) (from state back next : ℕ) → 0 < from → state ≡ from → back ≡ back_in t state → next ≡ back → (next ≡ back_in t from) × (next < from)
+smaller t from state back next some is e f =
+    let failed : next ≡ back_in t from = f ∙ e ∙ ap (back_in t) is in
+    (failed, omega (arith, failed, back_below t from some))
 
 module _ (t : List ℕ) (states dense byte : ℕ) where
   -- ── The row of a dense state ──
@@ -78,3 +84,14 @@ module _ (t : List ℕ) (states dense byte : ℕ) where
     unfolding sought_in
     sought_back i l none =
         within_back i i l none ∙ within_enough i (suc (back_in t i)) (back_in t i) (back_below t i (omega arith)) (omega arith)
+
+    -- ── One turn: the state at hand, the child found for it, and its failure ──
+
+    module _ (from state child : ℕ) (is : state ≡ from) (deep : dense ≤ from) (found : child ≡ child_by_in t states state byte) where
+      pub turn_child : (child ≡ 0 → ⊥) → sought_in t states dense from byte ≡ child
+      turn_child some =
+          let e : child ≡ child_by_in t states from byte = rw is at found in
+          sought_child from deep (λ z. some (e ∙ z)) ∙ sym e
+
+      pub turn_back : child ≡ 0 → (back : ℕ) → back ≡ back_in t from → sought_in t states dense from byte ≡ sought_in t states dense back byte
+      turn_back none back e = rw e (sought_back from deep (sym (rw is at found) ∙ none))
