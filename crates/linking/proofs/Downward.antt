@@ -32,7 +32,7 @@ module _ (book : Book) (bytes : All limits.Bytes (keywords book.phrases)) (t : L
     state_start : (n : ℕ) → So (is_state book (take n word))
     state_start n = (is_state_closed book).shorter (take n word) word (record { rest = drop n word; split = take-append-drop n word }) state
 
-    down_right : (n : ℕ) → n ≤ length word → state_down t (state_count book) word n ≡ number_in book (take n word)
+    pub down_right : (n : ℕ) → n ≤ length word → state_down t (state_count book) word n ≡ number_in book (take n word)
     unfolding state_down
     down_right zero l = sym (number_empty book bytes)
     down_right (suc n) l =
@@ -58,7 +58,7 @@ module _ (text : List ℕ) (words : List Stretch) (book : Book) (gives : Gives t
   state_of q = state_down t (state_count book) (keyword_in text words q) (length (keyword_in text words q))
 
   -- The state of a keyword has the number of the keyword.
-  state_right : (q : ℕ) → q < length words → state_of q ≡ number_in book (keyword_in text words q)
+  pub state_right : (q : ℕ) → q < length words → state_of q ≡ number_in book (keyword_in text words q)
   state_right q l =
       down_all book (given_bytes text words book gives) t held (keyword_in text words q)
       (keyword_state book (keyword_in text words q) (given_listed text words book gives q l))
