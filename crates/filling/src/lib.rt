@@ -6,4 +6,5 @@ mod onward;
 mod turns;
 
 pub use keywords::Keywords;
+pub use survey::KEYWORDS;
 pub use turns::number_states;
