@@ -10,11 +10,12 @@ use tables::{Tables, layout};
 fn farthest_column(t: &Tables) -> usize
     ensures { result ≡ farthest t.now 256 }
 {
-    let mut last: usize = 0;
+    // Kept, speed: numbers of two bytes, so that several are compared at once.
+    let mut last: u16 = 0;
     for byte in 0..layout::BYTE_VALUES {
-        last = last.max(t.column(byte as u8));
+        last = last.max(t.column(byte as u8) as u16);
     }
-    last
+    usize::from(last)
 }
 
 // Whether the column of each byte leaves room for the cells of all dense states: then no cell has to be asked for its room.
