@@ -77,37 +77,40 @@ module _ (t part : List ℕ) where
               let reach : j + 1 ≡ 0 * quarter + j + 1 = omega arith in
               rw none ((ran.listed 0 (omega arith)).each j l ∙ ap₂ (λ (p s : ℕ). after_from t part p s (j + 1)) here begun ∙ ap (after_from t part first state) reach)
 
-      -- The k-th quarter can be looked up again.
-      pub mending_ready : (ahead before now : List ℕ) (k end : ℕ) → LookReady t part first quarter state ahead → length before ≡ length ahead
-          → Mending first quarter state start before k end now → k < 4
-          → Ready quarter (first + k * quarter) k end (cursor start k) (cursor ends k) now
-      mending_ready ahead before now k end ready long mending few =
+      -- The k-th quarter can be looked up again, from any state.
+      pub mending_ready : (ahead before now : List ℕ) (k end at : ℕ) → LookReady t part first quarter state ahead → length before ≡ length ahead
+          → Mending first quarter state start before k end now → k < 4 → at < state_count_in t
+          → Ready quarter (first + k * quarter) k at (cursor start k) (cursor ends k) now
+      mending_ready ahead before now k end at ready long mending few inside =
           let most : (k + 1) * quarter ≤ 4 * quarter = mul-le-mul_right quarter (omega arith) in (
-            again_ready t part first quarter state ahead ready now (mending.long ∙ long) (first + k * quarter) k end few
-                (omega (arith, mending.ended, after_inside t part first state (k * quarter) ready.inside)) (omega (arith, add-mul k 1 quarter)),
+            again_ready t part first quarter state ahead ready now (mending.long ∙ long) (first + k * quarter) k at few inside (omega (arith, add-mul k 1 quarter)),
             mending.still k (omega arith) few,
             ran.ended k few,
           )
 
-    -- It was.
-    pub mending_more : (before now after : List ℕ) (k end next : ℕ) → Mending first quarter state start before k end now → k < 4
-        → Mended t part (first + k * quarter) quarter k end next now after → Mending first quarter state start before (k + 1) next after
-    mending_more before now after k end next mending below mended = record {
+    -- The quarters before the k-th end in a state.
+    pub mending_inside : (before now : List ℕ) (k end : ℕ) → Mending first quarter state start before k end now → state < state_count_in t → end < state_count_in t
+    mending_inside before now k end mending inside = omega (arith, mending.ended, after_inside t part first state (k * quarter) inside)
+
+    -- It was, from the state in which those before it end.
+    pub mending_more : (before now after : List ℕ) (k end at next : ℕ) → Mending first quarter state start before k end now → k < 4 → at ≡ end
+        → Mended t part (first + k * quarter) quarter k at next now after → Mending first quarter state start before (k + 1) next after
+    mending_more before now after k end at next mending below from_end mended = record {
       ended = mended.ended ∙ joined quarter ((k + 1) * quarter) (omega (arith, add-mul k 1 quarter));
       right = λ q j more l. ⊎_elim
           (λ (e : q ≡ k). rw e (mended.listed.each j l ∙ joined (j + 1) (k * quarter + j + 1) (omega arith)))
           (λ (d : q ≡ k → ⊥). mended.others q j (omega arith) d ∙ mending.right q j (omega arith) l)
           (eq_or_ne q k);
       still = λ q more few.
-          listed_kept (first + q * quarter) (cursor start q) quarter q k now after (first + k * quarter) end next few (λ e. omega (arith, more, e)) (mending.still q (omega arith) few) mended;
+          listed_kept (first + q * quarter) (cursor start q) quarter q k now after (first + k * quarter) at next few (λ e. omega (arith, more, e)) (mending.still q (omega arith) few) mended;
       behind = kept_over (4 * quarter) (4 * quarter) before now after (omega arith) mending.behind mended.behind;
       long = mended.long ∙ mending.long;
     }
       where
         -- So many bytes on, and some more.
-        joined : (n o : ℕ) → o ≡ k * quarter + n → after_from t part (first + k * quarter) end n ≡ after_from t part first state o
+        joined : (n o : ℕ) → o ≡ k * quarter + n → after_from t part (first + k * quarter) at n ≡ after_from t part first state o
         joined n o sum =
-            ap (λ (s : ℕ). after_from t part (first + k * quarter) s n) mending.ended ∙ sym (after_add t part first state (k * quarter) n) ∙ ap (after_from t part first state) (sym sum)
+            ap (λ (s : ℕ). after_from t part (first + k * quarter) s n) (from_end ∙ mending.ended) ∙ sym (after_add t part first state (k * quarter) n) ∙ ap (after_from t part first state) (sym sum)
 
     -- All four are right.
     pub mending_all : (before now : List ℕ) (k end : ℕ) → 4 ≤ k → Mending first quarter state start before k end now → Looked t part first quarter state now

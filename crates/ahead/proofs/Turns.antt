@@ -67,19 +67,19 @@ module _ (ahead : List ℕ) (at : ℕ) (cursors : List ℕ) where
   pub length_first : (n : ℕ) → length (with_first ahead at cursors n) ≡ length ahead
   unfolding with_first
   length_first zero = refl
-  length_first (suc n) = length-set (with_first ahead at cursors n) (at + n) (cursor cursors n) ∙ length_first n
+  length_first (suc n) = length-set (with_first ahead at cursors n) (at + n) _ ∙ length_first n
 
   -- A number that is none of them is as it was.
   pub first_others : (n p : ℕ) → ((k : ℕ) → k < n → p ≡ at + k → ⊥) → get_or (with_first ahead at cursors n) p 0 ≡ get_or ahead p 0
   unfolding with_first
   first_others zero p apart = refl
   first_others (suc n) p apart =
-      get_or-set_other (with_first ahead at cursors n) (at + n) p (cursor cursors n) 0 (apart n (omega arith)) ∙ first_others n p (λ k l. apart k (omega arith))
+      get_or-set_other (with_first ahead at cursors n) (at + n) p _ 0 (apart n (omega arith)) ∙ first_others n p (λ k l. apart k (omega arith))
 
   pub first_there : (n : ℕ) → at + n ≤ length ahead → (k : ℕ) → k < n → get_or (with_first ahead at cursors n) (at + k) 0 ≡ cursor cursors k
   unfolding with_first
   first_there zero room k l = absurd (omega arith)
   first_there (suc n) room k l = ⊎_elim
-      (λ (e : k ≡ n). rw e (get_or-set_same (with_first ahead at cursors n) (at + n) (cursor cursors n) 0 (omega (arith, length_first n))))
-      (λ (d : k ≡ n → ⊥). get_or-set_other (with_first ahead at cursors n) (at + n) (at + k) (cursor cursors n) 0 (λ e. d (omega arith)) ∙ first_there n (omega arith) k (omega arith))
+      (λ (e : k ≡ n). rw e (get_or-set_same (with_first ahead at cursors n) (at + n) _ 0 (omega (arith, length_first n)) ∙ ap (cursor cursors) (omega arith)))
+      (λ (d : k ≡ n → ⊥). get_or-set_other (with_first ahead at cursors n) (at + n) (at + k) _ 0 (λ e. d (omega arith)) ∙ first_there n (omega arith) k (omega arith))
       (eq_or_ne k n)

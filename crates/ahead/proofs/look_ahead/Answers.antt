@@ -4,7 +4,7 @@ use mathlib.Core.Path.{◌∙◌}
 use Prim.Native.Nat.{◌*◌}
 use native.Mathlib.Omega.{arith}
 use Rattle.ahead.proofs.Runs.{kept_over}
-use Rattle.ahead.proofs.Quarters.{run_ready, mending_start, mending_ready, mending_more, mending_all}
+use Rattle.ahead.proofs.Quarters.{run_ready, mending_start, mending_ready, mending_inside, mending_more, mending_all}
 use Rattle.ahead.proofs.look_ahead.Goals as goal
 
 pub run_four-ends-requires : goal.run_four-ends-requires
@@ -22,12 +22,13 @@ pub mend-end-requires : goal.mend-end-requires
 mend-end-requires c =
     let a = c.args in
     let ran = c.run_four-ends.ensures in
-    mending_ready a.t.now a.part.now a.first a.quarter a.state.0 _ _ _ _ ran a.ahead.now _ _ _ _ c.requires (ran.long ∙ c.guessed-start.ensures.long) c.loop-k.invariant c.loop-k-test.true
+    let inside = mending_inside a.t.now a.part.now a.first a.quarter a.state.0 _ _ _ _ _ c.loop-k.invariant c.requires.inside in
+    mending_ready a.t.now a.part.now a.first a.quarter a.state.0 _ _ _ _ ran a.ahead.now _ _ _ _ _ c.requires (ran.long ∙ c.guessed-start.ensures.long) c.loop-k.invariant c.loop-k-test.true inside
 
 pub loop-k-preserved : goal.loop-k-preserved
 loop-k-preserved c =
     let a = c.args in
-    mending_more a.t.now a.part.now a.first a.quarter a.state.0 _ _ _ _ _ _ _ c.loop-k.invariant c.loop-k-test.true c.mend-end.ensures
+    mending_more a.t.now a.part.now a.first a.quarter a.state.0 _ _ _ _ _ _ _ _ c.loop-k.invariant c.loop-k-test.true (omega arith) c.mend-end.ensures
 
 pub shape_of-ahead : goal.shape_of-ahead
 shape_of-ahead c = c.loop-k.invariant.long ∙ c.run_four-ends.ensures.long ∙ c.guessed-start.ensures.long
