@@ -1,11 +1,11 @@
 // The letter, part after part in one buffer: a part is used up, and its lines are written, before the next is read.
 ghost use Rattle.std.specs.Prelude.{◌≡◌, ◌+◌, ◌<◌, ◌≤◌, length};
 ghost use Rattle.lines.specs.Answers.{opened_end, listed_taken, listed_end};
-ghost use Rattle.pipes.specs.Letter.{PartInside, unused, Started, Next, PartOf, after_bytes, AfterCall};
+ghost use Rattle.pipes.specs.Letter.{PartInside, unused, Started, Next, PartRead, after_bytes, AfterCall};
 
 use crate::NotListed;
 use crate::ends::{write_end, write_too_long, write_whole};
-use crate::reading::fill;
+use crate::reading::{NotRead, fill};
 use lines::{BookRefused, Listed, PartRefused};
 use std::io::{Read, Write};
 
@@ -85,16 +85,17 @@ pub fn next<R: Read, W: Write>(turn: Turn, part: &mut [u8], from: &mut R, to: &m
         write_end(standing.totals, to)?;
         return Ok(None);
     }
-    let Ok(count) = fill(from, part) else {
-        return Err(NotListed::LetterNotRead);
-    };
-    part_of(count, part.len(), standing.totals, to)
+    let came = fill(from, part);
+    part_of(came, part.len(), standing.totals, to)
 }
 
 // What a read brought, as the next part. The last one is shorter; where it has no byte, the letter ended with the part before.
-fn part_of<W: Write>(count: usize, room: usize, totals: Totals, to: &mut W) -> Turn
-    ensures { PartOf room totals count result }
+fn part_of<W: Write>(came: Result<usize, NotRead>, room: usize, totals: Totals, to: &mut W) -> Turn
+    ensures { PartRead room totals came result }
 {
+    let Ok(count) = came else {
+        return Err(NotListed::LetterNotRead);
+    };
     if count == room {
         return Ok(Some(unused(room, true, totals)));
     }
