@@ -1,12 +1,18 @@
--- What the next bytes of a letter are lies in the buffer: by cases of whether the listing goes on, and of what was read. Assumes nothing.
+-- What the next bytes of a letter are lies in the buffer, and after a turn they lie where they lay: by cases of whether the listing goes on,
+-- and of what was read. Assumes nothing.
 use Rattle.std.proofs.Common.{◌≡◌, ℕ, ◌<◌, ◌≤◌, Bool, true, false, eqb, ltb, List, length, Result, Ok, Err, Option, Some, None, refl, subst, ⊎_elim, arith, ltb-true, eqb-true}
 use borrow.Author.Tests.{eqb-false}
+use Rattle.lines.specs.declared.answers.BookRefused.{BookRefused}
 use Rattle.pipes.specs.declared.NotListed.{NotListed}
 use Rattle.pipes.specs.declared.reading.NotRead.{NotRead}
 use Rattle.pipes.specs.declared.letter.Totals.{Totals}
 use Rattle.pipes.specs.declared.letter.Standing.{Standing}
 use Rattle.pipes.specs.Reading.{Fits}
-use Rattle.pipes.specs.Letter.{PartInside, LastPart, FullPart, PartRead, NextPart, NextBytes, Next}
+use Rattle.pipes.specs.Letter.{Started, PartInside, LastPart, FullPart, PartRead, NextPart, NextBytes, Next, TurnWithin}
+
+pub started_inside : (opened : Result ℕ BookRefused) (more : Bool) (first : Result (Option Standing) NotListed) → Started opened more first → PartInside first 0
+started_inside (Ok end) more first = ⊎_elim (λ e. rw e (omega arith)) (λ e. rw e tt)
+started_inside (Err refused) more first = ⊎_elim (λ e. rw e tt) (λ e. rw e tt)
 
 -- A listing that goes on has bytes to offer, which lie in the buffer.
 abbrev pub Offers : Result (Option Standing) NotListed → ℕ → Type 0
@@ -41,3 +47,15 @@ next_offers (Ok (Some standing)) part next after room long some inside is =
     subst (Offers next) long (bytes_offers standing part next after (omega arith) (omega arith) (ltb standing.used standing.size) refl is)
 next_offers (Ok None) part next after room long some inside is = rw is.0 tt
 next_offers (Err told) part next after room long some inside is = rw is.0 tt
+
+module _ (offered : Result (Option Standing) NotListed) (before : Standing) (room : ℕ) (is : offered ≡ Ok (Some before)) (offers : Offers offered room) where
+  here : Offers (Ok (Some before)) room
+  here = subst (λ (turn : Result (Option Standing) NotListed). Offers turn room) is offers
+
+  pub offered_inside : (long : ℕ) → long ≡ room → (before.used ≤ before.size) × (before.size ≤ long)
+  offered_inside long same = (omega (arith, here.0), omega (arith, here.1))
+
+  pub turn_inside : (after : Result (Option Standing) NotListed) → TurnWithin before after → PartInside after room
+  turn_inside (Ok (Some standing)) within = omega (arith, here.1, within.2)
+  turn_inside (Ok None) within = absurd within
+  turn_inside (Err told) within = tt

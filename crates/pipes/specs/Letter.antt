@@ -25,8 +25,8 @@ abbrev pub unread : Bool → Standing
 unread more = unused 0 more record { taken = 0; hits = 0; steps = 0 }
 
 -- The letter begins where the book is ready, and a refused book ends the listing.
-abbrev pub Started : Result ℕ BookRefused → Bool → Result Standing NotListed → Type 0
-Started (Ok end) more first = OrNotWritten (Ok (unread more)) first
+abbrev pub Started : Result ℕ BookRefused → Bool → Result (Option Standing) NotListed → Type 0
+Started (Ok end) more first = OrNotWritten (Ok (Some (unread more))) first
 Started (Err refused) more first = OrNotWritten (Err why.BookRefused) first
 
 -- The part lies in the buffer.
@@ -70,8 +70,8 @@ Next (Ok None) part next after = (next ≡ Ok None) × (after ≡ part)
 Next (Err told) part next after = (next ≡ Err told) × (after ≡ part)
 
 -- After a call: its bytes are used, and its counts are added in 64 bits; a call that takes nothing ends the listing.
-abbrev pub after_bytes : Standing → ℕ → ℕ → ℕ → Result Standing NotListed
-after_bytes standing taken hits steps = cond (taken == 0) (Err why.NotTaken) (Ok record {
+abbrev pub after_bytes : Standing → ℕ → ℕ → ℕ → Result (Option Standing) NotListed
+after_bytes standing taken hits steps = cond (taken == 0) (Err why.NotTaken) (Ok (Some record {
   size = standing.size;
   used = standing.used + taken;
   more = standing.more;
@@ -80,10 +80,10 @@ after_bytes standing taken hits steps = cond (taken == 0) (Err why.NotTaken) (Ok
     hits = (standing.totals.hits + hits) % 2 ^ 64;
     steps = (standing.totals.steps + steps) % 2 ^ 64;
   };
-})
+}))
 
 -- The listing goes on after a call that took bytes, and a letter refused with 11 or a call that refused the tables ends it.
-abbrev pub AfterCall : Result Listed PartRefused → Standing → Result Standing NotListed → Type 0
+abbrev pub AfterCall : Result Listed PartRefused → Standing → Result (Option Standing) NotListed → Type 0
 AfterCall (Ok listed) standing next = OrNotWritten (after_bytes standing listed.taken listed.hits listed.steps) next
 AfterCall (Err part.TooLong) standing next = OrNotWritten (Err why.LetterRefused) next
 AfterCall (Err part.NotTaken) standing next = next ≡ Err why.NotTaken
@@ -92,7 +92,8 @@ AfterCall (Err part.NotTaken) standing next = next ≡ Err why.NotTaken
 abbrev pub CallEnd : NotListed → Type 0
 CallEnd told = (told ≡ why.LetterRefused) ⊎ ((told ≡ why.NotWritten) ⊎ (told ≡ why.NotTaken))
 
--- A call after which the listing goes on uses some of the bytes that are left, and no more than these.
-abbrev pub TurnWithin : Standing → Result Standing NotListed → Type 0
-TurnWithin before (Ok standing) = (before.used < standing.used) × (standing.used ≤ standing.size) × (standing.size ≡ before.size)
+-- A call after which the listing goes on uses some of the bytes that are left, and no more than these; no call is the letter's end.
+abbrev pub TurnWithin : Standing → Result (Option Standing) NotListed → Type 0
+TurnWithin before (Ok (Some standing)) = (before.used < standing.used) × (standing.used ≤ standing.size) × (standing.size ≡ before.size)
+TurnWithin before (Ok None) = ⊥
 TurnWithin before (Err told) = CallEnd told

@@ -48,7 +48,7 @@ pub fn start<W: Write>(
     line: &[u8],
     more: bool,
     to: &mut W,
-) -> Result<Standing, NotListed>
+) -> Turn
     requires { opened_end opened ≤ length line.now }
     ensures { Started opened more result }
 {
@@ -60,7 +60,7 @@ pub fn start<W: Write>(
                 hits: 0,
                 steps: 0,
             };
-            Ok(unused(0, more, totals))
+            Ok(Some(unused(0, more, totals)))
         }
         Err(refused) => {
             write_whole(&line[..refused.end], to)?;
@@ -112,7 +112,7 @@ pub fn after<W: Write>(
     lines: &[u8],
     standing: Standing,
     to: &mut W,
-) -> Result<Standing, NotListed>
+) -> Turn
     requires { (standing.used + listed_taken listed ≤ standing.size) × (listed_end listed ≤ length lines.now) }
     ensures { AfterCall listed standing result }
 {
@@ -131,7 +131,7 @@ pub fn after<W: Write>(
 
 // Where a letter stands after so many bytes more. A call that takes none would be made again for ever: it ends the listing. A byte brings
 // at most 128 hits, and a letter no more steps than bytes, so that no sum comes near 2^64.
-fn took(standing: Standing, taken: usize, hits: usize, steps: u64) -> Result<Standing, NotListed>
+fn took(standing: Standing, taken: usize, hits: usize, steps: u64) -> Turn
     requires { standing.used + taken ≤ standing.size }
     ensures { result ≡ after_bytes standing taken hits steps }
 {
@@ -139,7 +139,7 @@ fn took(standing: Standing, taken: usize, hits: usize, steps: u64) -> Result<Sta
         return Err(NotListed::NotTaken);
     }
     let totals = standing.totals;
-    Ok(Standing {
+    Ok(Some(Standing {
         size: standing.size,
         used: standing.used + taken,
         more: standing.more,
@@ -148,5 +148,5 @@ fn took(standing: Standing, taken: usize, hits: usize, steps: u64) -> Result<Sta
             hits: totals.hits.wrapping_add(hits as u64),
             steps: totals.steps.wrapping_add(steps),
         },
-    })
+    }))
 }

@@ -1,7 +1,8 @@
 -- Which ends of a listing can be told. Assumes nothing: these are definitions.
-use Rattle.std.specs.Prelude.{◌≡◌, ◌⊎◌, ℕ, List, Option, Result, Ok, Err}
+use Rattle.std.specs.Prelude.{◌≡◌, ◌⊎◌, ℕ, List, Option, Some, None, Result, Ok, Err}
 use Rattle.pipes.specs.declared.NotListed.{NotListed}
 use Rattle.pipes.specs.declared.NotListed.TheVariants as why
+use Rattle.pipes.specs.declared.letter.Standing.{Standing}
 use Rattle.pipes.specs.Letter.{CallEnd}
 use Rattle.pipes.specs.Words.{sentence_of}
 use Rattle.pipes.specs.Writing.{FrontWritten}
@@ -10,6 +11,12 @@ use Rattle.pipes.specs.Writing.{FrontWritten}
 abbrev pub LetterEnd : Result (Unit {0}) NotListed → Type 0
 LetterEnd (Ok done) = Unit {0}
 LetterEnd (Err told) = (told ≡ why.LetterNotRead) ⊎ CallEnd told
+
+-- A listing that is over ends as it did, and any other as its letter.
+abbrev pub EndFrom : Result (Option Standing) NotListed → Result (Unit {0}) NotListed → Type 0
+EndFrom (Ok (Some standing)) told = LetterEnd told
+EndFrom (Ok None) told = told ≡ Ok tt
+EndFrom (Err ended) told = told ≡ Err ended
 
 -- The end of a listing whose book came: that of its letter, or that the book is refused.
 abbrev pub ListingEnd : Result (Unit {0}) NotListed → Type 0

@@ -1,10 +1,10 @@
 // The letter, turn after turn: the bytes that are next, a call on them, and its lines.
-ghost use Rattle.std.specs.Prelude.{◌≡◌, ◌≤◌, length};
-ghost use Rattle.pipes.specs.Letter.{TurnWithin};
-ghost use Rattle.stream.specs.Ends.{LetterEnd};
+ghost use Rattle.std.specs.Prelude.{◌≤◌, length};
+ghost use Rattle.pipes.specs.Letter.{PartInside, TurnWithin};
+ghost use Rattle.stream.specs.Ends.{EndFrom};
 
 use listing::LONGEST_LINE;
-use pipes::{NotListed, Standing, after, next};
+use pipes::{NotListed, Standing, Turn, after, next};
 use std::io::{Read, Write};
 
 // The bytes of a part; only the last one is shorter.
@@ -21,25 +21,26 @@ const ROOM: usize = 2 * REPORTS;
 
 const LINES: usize = LONGEST_LINE * REPORTS;
 
-// Lists the letter to its end.
+// Lists the letter to its end. A listing that is over at first ends as it did.
 pub(crate) fn list_letter<R: Read, W: Write>(
     tables: &[u8],
     running: &mut [u8],
-    first: Standing,
+    first: Turn,
     from: &mut R,
     to: &mut W,
 ) -> Result<(), NotListed>
-    requires { first.size ≡ 0 }
-    ensures { LetterEnd result }
+    requires { PartInside first 0 }
+    ensures { EndFrom first result }
 {
     let mut part = [0u8; PART];
-    let mut standing = first;
+    let mut turn = first;
     for _ in 0..MOST_TURNS {
-        let Some(offered) = next(Ok(Some(standing)), &mut part, from, to)? else {
+        let Some(offered) = next(turn, &mut part, from, to)? else {
             return Ok(());
         };
-        standing = list_some(tables, running, &part, offered, to)?;
+        turn = list_some(tables, running, &part, offered, to);
     }
+    turn?;
     Err(NotListed::NotTaken)
 }
 
@@ -50,7 +51,7 @@ fn list_some<W: Write>(
     part: &[u8],
     standing: Standing,
     to: &mut W,
-) -> Result<Standing, NotListed>
+) -> Turn
     requires { (standing.used ≤ standing.size) × (standing.size ≤ length part.now) }
     ensures { TurnWithin standing result }
 {

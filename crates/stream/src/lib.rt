@@ -70,6 +70,6 @@ fn list_with<R: Read, W: Write>(
     let mut running = [0u8; RUNNING];
     let mut line = [0u8; LONGEST_LINE];
     let opened = parts::open_book(book, &mut tables, &mut running, &mut line);
-    let first = start(opened, &line, more, to)?;
+    let first = start(opened, &line, more, to);
     list_letter(&tables, &mut running, first, from, to)
 }
