@@ -2,11 +2,13 @@
 // is decided, crate `parts` decides, on slices; crate `pipes` moves the bytes; here the two take turns.
 #![tactic(auto)]
 
-ghost use Rattle.std.specs.Prelude.{◌≡◌, length, Err, MatchResult};
+ghost use Rattle.std.specs.Prelude.{◌≡◌, ◌≤◌, length, Err, MatchResult};
+ghost use Rattle.lines.specs.Answers.{opened_end};
 ghost use Rattle.pipes.specs.Books.{CameWithin};
-ghost use Rattle.stream.specs.Ends.{ListingEnd, EndTold};
+ghost use Rattle.stream.specs.Ends.{OpenedEnd, ListingEnd, EndTold};
 
 use letter::list_letter;
+use lines::BookRefused;
 use listing::LONGEST_LINE;
 use pipes::{Book, NotListed, say, sized_book, start, whole_book};
 use std::io::{Read, Write};
@@ -70,6 +72,22 @@ fn list_with<R: Read, W: Write>(
     let mut running = [0u8; RUNNING];
     let mut line = [0u8; LONGEST_LINE];
     let opened = parts::open_book(book, &mut tables, &mut running, &mut line);
-    let first = start(opened, &line, more, to);
-    list_letter(&tables, &mut running, first, from, to)
+    list_opened(opened, &line, more, &tables, &mut running, from, to)
+}
+
+// The listing from what opening the book answered. A refused book is never told as listed.
+fn list_opened<R: Read, W: Write>(
+    opened: Result<usize, BookRefused>,
+    line: &[u8],
+    more: bool,
+    tables: &[u8],
+    running: &mut [u8],
+    from: &mut R,
+    to: &mut W,
+) -> Result<(), NotListed>
+    requires { opened_end opened ≤ length line.now }
+    ensures { OpenedEnd opened result }
+{
+    let first = start(opened, line, more, to);
+    list_letter(tables, running, first, from, to)
 }
