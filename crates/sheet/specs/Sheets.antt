@@ -1,6 +1,30 @@
--- The records of document 01's table as bytes, with any fields.
+-- The records of document 01's table as bytes, with any fields; and a sheet that is lent, on which bytes are written one after the other.
 -- Assumes nothing: these are definitions.
-use Rattle.std.specs.Prelude.{List, [], ◌∷◌, ◌++◌, ℕ, ◌+◌, ◌/◌, ◌%◌, length}
+use Rattle.std.specs.Prelude.{cond, List, [], ◌∷◌, ◌++◌, ℕ, zero, suc, ◌+◌, ◌/◌, ◌%◌, ltb, length, set}
+
+-- Lent bytes, and where the next one goes. What does not fit is left out.
+pub record Sheet : Type 0 where
+  pub bytes : List ℕ
+  pub next : ℕ
+
+-- One byte more, if it fits.
+unfoldable pub with_byte : Sheet → ℕ → Sheet
+with_byte sheet byte =
+    cond (ltb sheet.next (length sheet.bytes))
+    (record { bytes = set sheet.bytes sheet.next byte; next = sheet.next + 1 })
+    sheet
+
+-- Some bytes more, one after the other.
+unfoldable pub with_all : Sheet → List ℕ → Sheet
+with_all sheet [] = sheet
+with_all sheet (byte ∷ rest) = with_all (with_byte sheet byte) rest
+
+-- The same byte so many times.
+unfoldable pub with_many : Sheet → ℕ → ℕ → Sheet
+with_many sheet zero byte = sheet
+with_many sheet (suc n) byte = with_byte (with_many sheet n byte) byte
+
+-- ── The records of document 01's table, with any fields ──
 
 -- A number of two bytes, high byte first.
 abbrev pub two_bytes : ℕ → List ℕ
