@@ -1,8 +1,7 @@
 // Books and letters by chance. All keywords of a book are parts of the same bytes, so that many are repeated, lie in one another, or
 // are suffixes of one another; and the letter is put together from parts of these bytes.
 use crate::chance::Chance;
-use crate::list::{Book, Gap, Piece};
-use std::alloc::{AllocError, Global};
+use crate::list::{Book, Gap, Keyword, LETTER, Letter, Piece, Pieces};
 
 // How large the parts of a book are.
 #[derive(Clone, Copy)]
@@ -105,62 +104,51 @@ fn drawn_length(chance: &mut Chance, longest: u16) -> usize {
     1 + chance.draw_size(longest)
 }
 
-// A part of the bytes.
-fn drawn_keyword(
-    alloc: Global,
-    chance: &mut Chance,
-    longest: u16,
-    bytes: &[u8; BYTES],
-) -> Result<Vec<u8>, AllocError> {
+// A part of the bytes; none where they end before it or it is longer than any keyword.
+fn drawn_keyword(chance: &mut Chance, longest: u16, bytes: &[u8; BYTES]) -> Option<Keyword> {
     let from = chance.draw_size(longest);
     let length = drawn_length(chance, longest);
-    bytes.iter().copied().skip(from).take(length).collect(alloc)
+    let part = bytes[..].get(from..)?.get(..length)?;
+    Keyword::try_from(part).ok()
 }
 
-// The pieces of one phrase more.
+// The pieces of one phrase more; none where there is no room for them.
 fn push_phrase(
-    alloc: Global,
-    pieces: &mut Vec<Piece>,
+    pieces: &mut Pieces,
     chance: &mut Chance,
     shape: Shape,
     bytes: &[u8; BYTES],
     number: u16,
-) -> Result<(), AllocError> {
+) -> Option<()> {
     let last = chance.draw_size(shape.pieces);
     for nth in 0..=last {
         let gap = drawn_gap_of(chance, nth, shape.far);
-        let keyword = drawn_keyword(alloc, chance, shape.longest, bytes)?;
-        pieces.push(Piece {
+        let keyword = drawn_keyword(chance, shape.longest, bytes)?;
+        let piece = Piece {
             number,
             nth,
             last: nth == last,
             gap,
             keyword,
-        })?;
+        };
+        pieces.try_push(piece).ok()?;
     }
-    Ok(())
+    Some(())
 }
 
-pub(crate) fn drawn_book(
-    alloc: Global,
-    chance: &mut Chance,
-    shape: Shape,
-    bytes: &[u8; BYTES],
-) -> Result<Book, AllocError> {
+// A book; none where there is no room for all its pieces.
+pub(crate) fn drawn_book(chance: &mut Chance, shape: Shape, bytes: &[u8; BYTES]) -> Option<Book> {
     let phrases = 1 + chance.draw(shape.phrases);
-    let mut pieces = Vec::new(alloc);
+    let mut pieces = Pieces::new();
     let mut number = 0u16;
     for _ in 0..phrases {
         number = number.wrapping_add(1 + chance.draw(APART));
-        push_phrase(alloc, &mut pieces, chance, shape, bytes, number)?;
+        push_phrase(&mut pieces, chance, shape, bytes, number)?;
     }
-    Ok(Book { phrases, pieces })
+    Some(Book { phrases, pieces })
 }
 
 // ── Letters ──
-
-// So many bytes are drawn for a letter, which has some of them.
-pub(crate) const LETTER: usize = 512;
 
 const LENGTHS: u16 = 61;
 
@@ -185,18 +173,15 @@ fn next_place(chance: &mut Chance, place: usize, longest: u16) -> usize {
     }
 }
 
-pub(crate) fn drawn_letter(
-    alloc: Global,
-    chance: &mut Chance,
-    shape: Shape,
-    bytes: &[u8; BYTES],
-) -> Result<Vec<u8>, AllocError> {
-    let mut letter = Vec::new(alloc);
+// As many bytes are drawn as there is room for; the letter has the first of them.
+pub(crate) fn drawn_letter(chance: &mut Chance, shape: Shape, bytes: &[u8; BYTES]) -> Letter {
+    let mut drawn = [0u8; LETTER];
     let mut place = 0;
-    for _ in 0..LETTER {
-        letter.push(bytes[place % BYTES])?;
+    for byte in drawn.iter_mut() {
+        *byte = bytes[place % BYTES];
         place = next_place(chance, place, shape.longest);
     }
+    let mut letter = Letter::from(drawn);
     letter.truncate(drawn_letter_length(chance, shape.far));
-    Ok(letter)
+    letter
 }

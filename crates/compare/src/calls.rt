@@ -4,7 +4,6 @@ use crate::lines::{Counts, Spot, add, compare};
 use crate::room::{ROOM, UNTOUCHED, compare_reports, compare_rest};
 use crate::ways::{Parts, Room, Way};
 use scanner::Took;
-use std::io;
 
 pub(crate) const TABLES: usize = 49152;
 
@@ -15,16 +14,23 @@ const OLD: u8 = 0xAA;
 
 // A letter to feed: the tables of its book, which has so many phrases, and what is due along the letter; by how many numbers the room
 // is larger than the least one; and where the letter is cut in two.
-#[derive(Drop)]
-pub(crate) struct Case {
+#[derive(Clone, Copy)]
+pub(crate) struct Case<'a> {
     pub(crate) number: u64,
     pub(crate) phrases: usize,
-    pub(crate) tables: [u8; TABLES],
-    pub(crate) letter: Vec<u8>,
-    pub(crate) due: Due,
+    pub(crate) tables: &'a [u8],
+    pub(crate) letter: &'a [u8],
+    pub(crate) due: &'a Due,
     pub(crate) more: usize,
     pub(crate) cut: usize,
 }
+
+// A refused call is compared like any other, as one that took more bytes than there are.
+const REFUSED: Took = Took {
+    taken: 65536,
+    reports: 0,
+    steps: 0,
+};
 
 // None where the call is refused.
 fn fed(tables: &[u8], running: &mut [u8], part: &[u8], room: &mut [u32]) -> Option<Took> {
@@ -35,7 +41,7 @@ fn begun(tables: &[u8], running: &mut [u8]) -> bool {
     scanner::begin(tables, running).is_ok()
 }
 
-impl Case {
+impl<'a> Case<'a> {
     fn spot(&self, way: Way, after: usize) -> Spot {
         Spot {
             case: self.number,
@@ -79,20 +85,19 @@ impl Case {
         spot: Spot,
         upto: usize,
         found: Took,
-    ) -> io::Result<()> {
+    ) {
         let after = spot.after;
         let place = after.wrapping_add(found.taken) as u64;
         let reports = self.due.reports(after, upto) as u64;
         let steps = self.due.steps(after, upto) as u64;
-        compare(rt, counts, spot, "bytes taken up to", upto as u64, place)?;
-        compare(rt, counts, spot, "reports", reports, found.reports as u64)?;
-        compare(rt, counts, spot, "steps", steps, found.steps)?;
+        compare(rt, counts, spot, "bytes taken up to", upto as u64, place);
+        compare(rt, counts, spot, "reports", reports, found.reports as u64);
+        compare(rt, counts, spot, "steps", steps, found.steps);
         add(&mut counts.calls, 1);
         add(&mut counts.taken, found.taken as u64);
-        Ok(())
     }
 
-    // Offers a part of the letter; answers the bytes taken, none where the call is refused.
+    // Offers a part of the letter; answers the bytes taken.
     fn call(
         &self,
         rt: &impl Print,
@@ -101,21 +106,20 @@ impl Case {
         running: &mut [u8],
         from: usize,
         until: usize,
-    ) -> io::Result<Option<usize>> {
+    ) -> usize {
         let mut room = [UNTOUCHED; ROOM];
         let slots = self.slots(way);
         let spot = self.spot(way, from);
-        let Some(found) = self.fed_part(running, from, until, &mut room, slots) else {
-            compare(rt, counts, spot, "refused calls", 0, 1)?;
-            return Ok(None);
-        };
+        let found = self
+            .fed_part(running, from, until, &mut room, slots)
+            .unwrap_or(REFUSED);
         let upto = self.reached(slots, from, until);
-        self.compare_answer(rt, counts, spot, upto, found)?;
-        compare_reports(rt, counts, spot, &self.due, &room, upto)?;
+        self.compare_answer(rt, counts, spot, upto, found);
+        compare_reports(rt, counts, spot, self.due, &room, upto);
         let first = self.due.reports(from, upto).wrapping_mul(2);
         let rest = room[..].get(first..slots).unwrap_or(&[]);
-        compare_rest(rt, counts, spot, rest)?;
-        Ok(Some(found.taken))
+        compare_rest(rt, counts, spot, rest);
+        found.taken
     }
 
     // A part of the letter, with so much of the room.
@@ -127,9 +131,11 @@ impl Case {
         room: &mut [u32],
         slots: usize,
     ) -> Option<Took> {
-        let part = self.letter.as_slice().get(from..until)?;
+        let letter = self.letter;
+        let part = letter.get(from..until)?;
         let lent = room.get_mut(..slots)?;
-        fed(&self.tables, running, part, lent)
+        let tables = self.tables;
+        fed(tables, running, part, lent)
     }
 
     // ── One letter ──
@@ -141,28 +147,27 @@ impl Case {
         counts: &mut Counts,
         way: Way,
         running: &mut [u8],
-    ) -> io::Result<()> {
+    ) {
         let length = self.letter.len();
         let mut at = 0;
         while at < length {
             let until = self.part_end(way.parts, at);
-            let Some(taken) = self.call(rt, counts, way, running, at, until)? else {
-                return Ok(());
-            };
+            let taken = self.call(rt, counts, way, running, at, until);
             if taken == 0 || taken > length - at {
-                return Ok(());
+                return;
             }
             at += taken;
         }
-        self.call(rt, counts, way, running, at, at)?;
-        Ok(())
+        self.call(rt, counts, way, running, at, at);
     }
 
-    pub(crate) fn feed(&self, rt: &impl Print, counts: &mut Counts, way: Way) -> io::Result<()> {
+    pub(crate) fn feed(&self, rt: &impl Print, counts: &mut Counts, way: Way) {
         let mut running = [OLD; RUNNING];
-        if !begun(&self.tables, &mut running) {
-            return compare(rt, counts, self.spot(way, 0), "begin", 0, 1);
+        let tables = self.tables;
+        if !begun(tables, &mut running) {
+            compare(rt, counts, self.spot(way, 0), "begin", 0, 1);
+            return;
         }
-        self.feed_parts(rt, counts, way, &mut running)
+        self.feed_parts(rt, counts, way, &mut running);
     }
 }

@@ -1,21 +1,28 @@
 // What the second matcher finds due, place by place.
 use crate::lines::{Counts, add};
-use crate::list::{Book, Piece};
-use crate::matcher::find_ends;
+use crate::list::{Book, LETTER, Piece};
+use crate::matcher::{AllEnds, Ends, find_ends};
 use crate::steps::steps_for;
-use std::alloc::{AllocError, Global};
+use arrayvec::ArrayVec;
+
+// The most reports of a place. A letter with more of them at one is not compared, and counts as a difference.
+const NUMBERS: usize = 8;
+
+type Numbers = ArrayVec<u16, NUMBERS>;
 
 // What is due at a place: the failure steps of the byte that ends there, and the phrase numbers of the reports.
-#[derive(Drop)]
+#[derive(Drop, Default)]
 pub(crate) struct Place {
     steps: usize,
-    pub(crate) numbers: Vec<u16>,
+    pub(crate) numbers: Numbers,
 }
 
+type Places = ArrayVec<Place, LETTER>;
+
 // The places of a letter, from that behind its first byte on.
-#[derive(Drop)]
+#[derive(Drop, Default)]
 pub(crate) struct Due {
-    places: Vec<Place>,
+    places: Places,
 }
 
 impl Due {
@@ -53,57 +60,52 @@ fn count_report(counts: &mut Counts, piece: &Piece) {
     }
 }
 
-// A report for each phrase whose last piece ends at the place. The phrases stand by their number.
-fn reports_at(
-    alloc: Global,
-    counts: &mut Counts,
-    book: &Book,
-    ends: &[Vec<usize>],
-    place: usize,
-) -> Result<Vec<u16>, AllocError> {
-    let mut numbers = Vec::new(alloc);
+// A report for each phrase whose last piece ends behind byte n. The phrases stand by their number. None where there is no room for them.
+fn reports_at(counts: &mut Counts, book: &Book, ends: &[Ends], n: usize) -> Option<Numbers> {
+    let mut numbers = Numbers::new();
     for (piece, places) in book.pieces.iter().zip(ends.iter()) {
-        if piece.last && places.contains(&place) {
-            numbers.push(piece.number)?;
+        let ended = places.as_slice().get(n).copied().unwrap_or(false);
+        if piece.last && ended {
+            numbers.try_push(piece.number).ok()?;
             count_report(counts, piece);
         }
     }
     if numbers.len() > 1 {
         add(&mut counts.shared, numbers.len() as u64);
     }
-    Ok(numbers)
+    Some(numbers)
 }
 
 fn find_places(
-    alloc: Global,
     counts: &mut Counts,
     book: &Book,
     letter: &[u8],
-) -> Result<Vec<Place>, AllocError> {
-    let ends = find_ends(alloc, &book.pieces, letter)?;
-    let mut places = Vec::new(alloc);
-    for before in 0..letter.len() {
-        let place = before + 1;
-        let steps = steps_for(&book.pieces, &letter[..before], &letter[..place]);
-        let numbers = reports_at(alloc, counts, book, &ends, place)?;
-        places.push(Place { steps, numbers })?;
+    places: &mut Places,
+) -> Option<()> {
+    let pieces = book.pieces.as_slice();
+    let mut ends = AllEnds::new();
+    find_ends(pieces, letter, &mut ends)?;
+    for n in 0..letter.len() {
+        let steps = steps_for(pieces, &letter[..n], &letter[..=n]);
+        let numbers = reports_at(counts, book, ends.as_slice(), n)?;
+        places.try_push(Place { steps, numbers }).ok()?;
     }
-    Ok(places)
+    Some(())
 }
 
+// None where there is no room for it.
 pub(crate) fn find_due(
-    alloc: Global,
     counts: &mut Counts,
     book: &Book,
     letter: &[u8],
-) -> Result<Due, AllocError> {
-    let places = find_places(alloc, counts, book, letter)?;
-    let due = Due { places };
+    due: &mut Due,
+) -> Option<()> {
+    find_places(counts, book, letter, &mut due.places)?;
     let reports = due.reports(0, letter.len());
     add(&mut counts.reports, reports as u64);
     if reports > 0 {
         add(&mut counts.reported, 1);
     }
     add(&mut counts.steps, due.steps(0, letter.len()) as u64);
-    Ok(due)
+    Some(())
 }

@@ -1,6 +1,6 @@
 // The lines that are written, and what is counted.
 use crate::ways::Way;
-use std::{fmt, io};
+use std::fmt;
 
 // ── Counts ──
 
@@ -39,6 +39,15 @@ pub(crate) struct Spot {
 }
 
 impl Spot {
+    // Before the letter of a case is fed.
+    pub(crate) fn before(case: u64) -> Spot {
+        Spot {
+            case,
+            way: None,
+            after: 0,
+        }
+    }
+
     // The way's number, and one above all ways for none.
     fn way_number(self) -> u64 {
         match self.way {
@@ -57,6 +66,13 @@ impl fmt::Display for Spot {
     }
 }
 
+// Kept, speed: a function of its own, for the few lines that are written; in compare its room for a line is made ready at each of the
+// millions of calls.
+#[inline(never)]
+fn differ(rt: &impl Print, spot: Spot, what: &str, due: u64, found: u64) {
+    let _ = println!(rt; "{spot} {what} due {due} found {found}");
+}
+
 // A line where two numbers differ.
 pub(crate) fn compare(
     rt: &impl Print,
@@ -65,38 +81,38 @@ pub(crate) fn compare(
     what: &str,
     due: u64,
     found: u64,
-) -> io::Result<()> {
+) {
     if due == found {
-        return Ok(());
+        return;
     }
     add(&mut counts.differences, 1);
-    println!(rt; "{spot} {what} due {due} found {found}")
+    differ(rt, spot, what, due, found);
 }
 
 // ── What was compared ──
 
-fn letters(rt: &impl Print, counts: &Counts) -> io::Result<()> {
-    println!(rt; "phrases: {}", counts.phrases)?;
-    println!(rt; "pieces: {}", counts.pieces)?;
-    println!(rt; "bytes of letters: {}", counts.bytes)?;
-    println!(rt; "failure steps: {}", counts.steps)
+fn letters(rt: &impl Print, counts: &Counts) {
+    let _ = println!(rt; "phrases: {}", counts.phrases);
+    let _ = println!(rt; "pieces: {}", counts.pieces);
+    let _ = println!(rt; "bytes of letters: {}", counts.bytes);
+    let _ = println!(rt; "failure steps: {}", counts.steps);
 }
 
-fn reports(rt: &impl Print, counts: &Counts) -> io::Result<()> {
-    println!(rt; "letters with a report: {}", counts.reported)?;
-    println!(rt; "reports: {}", counts.reports)?;
-    println!(rt; "at a place with another: {}", counts.shared)?;
-    println!(rt; "of several pieces: {}", counts.several)?;
-    println!(rt; "behind a far gap: {}", counts.far)
+fn reports(rt: &impl Print, counts: &Counts) {
+    let _ = println!(rt; "letters with a report: {}", counts.reported);
+    let _ = println!(rt; "reports: {}", counts.reports);
+    let _ = println!(rt; "at a place with another: {}", counts.shared);
+    let _ = println!(rt; "of several pieces: {}", counts.several);
+    let _ = println!(rt; "behind a far gap: {}", counts.far);
 }
 
-pub(crate) fn summary(rt: &impl Print, counts: &Counts) -> io::Result<()> {
-    letters(rt, counts)?;
-    reports(rt, counts)?;
-    println!(rt; "calls: {}", counts.calls)?;
-    println!(rt; "bytes taken: {}", counts.taken)?;
+pub(crate) fn summary(rt: &impl Print, counts: &Counts) {
+    letters(rt, counts);
+    reports(rt, counts);
+    let _ = println!(rt; "calls: {}", counts.calls);
+    let _ = println!(rt; "bytes taken: {}", counts.taken);
     let cases = counts.cases;
     let reports = counts.reports;
     let differences = counts.differences;
-    println!(rt; "compared {cases} books and letters, {reports} reports, {differences} differences")
+    let _ = println!(rt; "compared {cases} books and letters, {reports} reports, {differences} differences");
 }

@@ -1,8 +1,26 @@
 // A book as a list of its pieces, that its bytes are written from and that the second matcher reads.
+use arrayvec::ArrayVec;
 use sheet::Sheet;
 
+// ── Room ──
+
+// The most bytes of a keyword, pieces of a book and bytes of a letter. What is larger is not compared, and counts as a difference.
+const KEYWORD: usize = 32;
+
+pub(crate) const PIECES: usize = 32;
+
+pub(crate) const LETTER: usize = 512;
+
+pub(crate) type Keyword = ArrayVec<u8, KEYWORD>;
+
+pub(crate) type Pieces = ArrayVec<Piece, PIECES>;
+
+pub(crate) type Letter = ArrayVec<u8, LETTER>;
+
+// ── Pieces ──
+
 // The gap before a piece: so many bytes at least, and so many at most, or any number where it is open.
-#[derive(Clone, Copy)]
+#[derive(Clone, Copy, Default)]
 pub(crate) struct Gap {
     pub(crate) least: u16,
     pub(crate) most: Option<u16>,
@@ -27,7 +45,7 @@ impl Gap {
     }
 }
 
-#[derive(Drop)]
+#[derive(Drop, Default)]
 pub(crate) struct Piece {
     // the number of its phrase
     pub(crate) number: u16,
@@ -35,14 +53,14 @@ pub(crate) struct Piece {
     pub(crate) nth: usize,
     pub(crate) last: bool,
     pub(crate) gap: Gap,
-    pub(crate) keyword: Vec<u8>,
+    pub(crate) keyword: Keyword,
 }
 
 // So many phrases, and their pieces one after the other.
 #[derive(Drop)]
 pub(crate) struct Book {
     pub(crate) phrases: u16,
-    pub(crate) pieces: Vec<Piece>,
+    pub(crate) pieces: Pieces,
 }
 
 // ── Its bytes ──
@@ -61,7 +79,7 @@ fn write_piece(sheet: &mut Written, n: usize, piece: &Piece) {
         Some(most) => sheet.bounded(piece.gap.least, most),
         None => sheet.open(piece.gap.least),
     }
-    sheet.keyword(&piece.keyword);
+    sheet.keyword(piece.keyword.as_slice());
 }
 
 impl Book {

@@ -10,16 +10,16 @@ mod lines;
 mod list;
 mod matcher;
 mod room;
+mod same;
 mod steps;
 mod ways;
 
-use books::{LETTER, Shape};
+use books::Shape;
 use calls::{Case, TABLES};
 use chance::Chance;
+use due::Due;
 use lines::{Counts, Spot, add, compare};
-use list::Book;
-use std::alloc::Global;
-use std::io;
+use list::{Book, LETTER};
 use ways::{Parts, Room, Way};
 
 // So many books, each with a letter.
@@ -67,31 +67,25 @@ fn built(book: &[u8], tables: &mut [u8]) -> Option<usize> {
     builder::build(book, tables).ok()
 }
 
-// The tables of the book. Every book here must be taken: a refused one stands in the line with length 0.
+// Every book here must be taken: a refused one stands in the line with length 0.
 fn build_book(
     rt: &impl Print,
     counts: &mut Counts,
     case: u64,
     book: &Book,
-) -> io::Result<[u8; TABLES]> {
-    let mut tables = [OLD; TABLES];
+    tables: &mut [u8; TABLES],
+) {
     let sheet = book.written();
     let written = sheet.as_slice();
-    let length = built(written, &mut tables).unwrap_or(0);
-    let spot = Spot {
-        case,
-        way: None,
-        after: 0,
-    };
+    let length = built(written, tables).unwrap_or(0);
     compare(
         rt,
         counts,
-        spot,
+        Spot::before(case),
         "length of the book",
         written.len() as u64,
         length as u64,
-    )?;
-    Ok(tables)
+    );
 }
 
 // ── Cases ──
@@ -110,57 +104,59 @@ fn drawn_more(chance: &mut Chance, case: u64) -> usize {
     more
 }
 
-// A book, and a letter for it.
-fn drawn_case(
+fn all_ways(rt: &impl Print, counts: &mut Counts, case: &Case) {
+    for room in [Room::Least, Room::Larger] {
+        for parts in [Parts::Whole, Parts::Bytes, Parts::Two] {
+            case.feed(rt, counts, Way { parts, room });
+        }
+    }
+}
+
+// A book, and a letter for it, fed in every way; none where there is no room for them or for what is due.
+fn one_case(
     rt: &impl Print,
-    alloc: Global,
     counts: &mut Counts,
     chance: &mut Chance,
     number: u64,
-) -> io::Result<Case> {
+) -> Option<()> {
     let shape = shape_of(number);
     let bytes = books::drawn_bytes(chance, shape.alphabet);
-    let book = books::drawn_book(alloc, chance, shape, &bytes)?;
-    let letter = books::drawn_letter(alloc, chance, shape, &bytes)?;
+    let book = books::drawn_book(chance, shape, &bytes)?;
+    let drawn = books::drawn_letter(chance, shape, &bytes);
+    let letter = drawn.as_slice();
     let more = drawn_more(chance, number);
     let cut = chance.draw_size((letter.len() % LETTER + 1) as u16);
-    let due = due::find_due(alloc, counts, &book, &letter)?;
-    let tables = build_book(rt, counts, number, &book)?;
+    let mut due = Due::default();
+    due::find_due(counts, &book, letter, &mut due)?;
+    let mut tables = [OLD; TABLES];
+    build_book(rt, counts, number, &book, &mut tables);
     add(&mut counts.cases, 1);
     add(&mut counts.phrases, u64::from(book.phrases));
     add(&mut counts.pieces, book.pieces.len() as u64);
     add(&mut counts.bytes, letter.len() as u64);
-    Ok(Case {
+    let case = Case {
         number,
         phrases: usize::from(book.phrases),
-        tables,
+        tables: &tables,
         letter,
-        due,
+        due: &due,
         more,
         cut,
-    })
+    };
+    all_ways(rt, counts, &case);
+    Some(())
 }
 
-fn all_ways(rt: &impl Print, counts: &mut Counts, case: &Case) -> io::Result<()> {
-    for room in [Room::Least, Room::Larger] {
-        for parts in [Parts::Whole, Parts::Bytes, Parts::Two] {
-            case.feed(rt, counts, Way { parts, room })?;
-        }
-    }
-    Ok(())
-}
-
-fn all(rt: &impl Print, alloc: Global) -> io::Result<()> {
+// A line that can't be written is left out; the lines after it are written still.
+fn main(rt: HostRuntime) {
     let mut counts = Counts::default();
     let mut chance = Chance(SEED);
     for number in 0..CASES {
-        let case = drawn_case(rt, alloc, &mut counts, &mut chance, number)?;
-        all_ways(rt, &mut counts, &case)?;
+        // what there is no room for is not compared, and counts as a difference
+        let compared = one_case(&rt, &mut counts, &mut chance, number);
+        if compared.is_none() {
+            compare(&rt, &mut counts, Spot::before(number), "without room", 0, 1);
+        }
     }
-    lines::summary(rt, &counts)
-}
-
-// A line that can't be written ends the program, and leaves its status as it is.
-fn main(rt: HostRuntime) {
-    let _ = all(&rt, rt.alloc());
+    lines::summary(&rt, &counts);
 }

@@ -1,56 +1,61 @@
 // The second matcher, straight from what a match is: a piece ends at a place if its keyword fills the bytes that end there, and the
 // bytes between it and an end of the piece before are as many as its gap admits. Before the first piece stands place 0.
-use crate::list::{Gap, Piece};
-use std::alloc::{AllocError, Global};
+use crate::list::{Gap, LETTER, PIECES, Piece};
+use crate::same::begins;
+use arrayvec::ArrayVec;
+
+// Whether a piece ends at each place of a letter, from that behind its first byte on.
+pub(crate) type Ends = ArrayVec<bool, LETTER>;
+
+pub(crate) type AllEnds = ArrayVec<Ends, PIECES>;
 
 // Whether a keyword that starts here follows an end of the piece before.
-fn follows(gap: Gap, before: &[usize], start: usize) -> bool {
+fn follows(gap: Gap, before: &[bool], start: usize) -> bool {
     before
         .iter()
-        .any(|end| *end <= start && gap.admits(start - *end))
+        .enumerate()
+        .any(|(n, ends)| *ends && n < start && gap.admits(start - n - 1))
 }
 
 // Whether the piece ends behind these bytes, where the piece before ends at those places.
-fn ends(piece: &Piece, read: &[u8], before: &[usize]) -> bool {
-    let Some(front) = read.strip_suffix(piece.keyword.as_slice()) else {
+fn ends(piece: &Piece, read: &[u8], before: &[bool]) -> bool {
+    let keyword = piece.keyword.as_slice();
+    if keyword.len() > read.len() {
         return false;
-    };
+    }
+    let start = read.len() - keyword.len();
+    if !begins(&read[start..], keyword) {
+        return false;
+    }
     if piece.nth == 0 {
-        return piece.gap.admits(front.len());
+        return piece.gap.admits(start);
     }
-    follows(piece.gap, before, front.len())
+    follows(piece.gap, before, start)
 }
 
-// The places at which the piece ends.
-fn ends_of(
-    alloc: Global,
-    piece: &Piece,
-    letter: &[u8],
-    before: &[usize],
-) -> Result<Vec<usize>, AllocError> {
-    let mut places = Vec::new(alloc);
+// At which places the piece ends; none where there is no room for them.
+fn ends_of(piece: &Piece, letter: &[u8], before: &[bool]) -> Option<Ends> {
+    let mut places = Ends::new();
     for place in 1..=letter.len() {
-        if ends(piece, &letter[..place], before) {
-            places.push(place)?;
-        }
+        places.try_push(ends(piece, &letter[..place], before)).ok()?;
     }
-    Ok(places)
+    Some(places)
 }
 
-// The places at which each piece ends, from the first piece on, so that the ends of the piece before are known.
-pub(crate) fn find_ends(
-    alloc: Global,
-    pieces: &[Piece],
-    letter: &[u8],
-) -> Result<Vec<Vec<usize>>, AllocError> {
-    let mut all: Vec<Vec<usize>> = Vec::new(alloc);
-    for piece in pieces {
-        let before = match all.last() {
-            Some(places) => places.as_slice(),
-            None => &[],
-        };
-        let places = ends_of(alloc, piece, letter, before)?;
-        all.push(places)?;
+// At which places the last of these pieces ends.
+fn last_ends(all: &[Ends]) -> &[bool] {
+    match all.last() {
+        Some(places) => places.as_slice(),
+        None => &[],
     }
-    Ok(all)
+}
+
+// At which places each piece ends, from the first piece on, so that the ends of the piece before are known; none where there is no room
+// for them.
+pub(crate) fn find_ends(pieces: &[Piece], letter: &[u8], all: &mut AllEnds) -> Option<()> {
+    for piece in pieces {
+        let places = ends_of(piece, letter, last_ends(all.as_slice()))?;
+        all.try_push(places).ok()?;
+    }
+    Some(())
 }

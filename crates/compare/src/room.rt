@@ -1,7 +1,6 @@
 // The reports in the room, held against what is due.
 use crate::due::Due;
 use crate::lines::{Counts, Spot, compare};
-use std::io;
 
 // Room for 512 reports, and an odd last element.
 pub(crate) const ROOM: usize = 1025;
@@ -16,7 +15,7 @@ fn compare_report(
     number: u16,
     place: usize,
     found: [u32; 2],
-) -> io::Result<()> {
+) {
     let [phrase, at] = found;
     compare(
         rt,
@@ -25,8 +24,8 @@ fn compare_report(
         "phrase",
         u64::from(number),
         u64::from(phrase),
-    )?;
-    compare(rt, counts, spot, "place", place as u64, u64::from(at))
+    );
+    compare(rt, counts, spot, "place", place as u64, u64::from(at));
 }
 
 // The reports up to a place stand in the room one after the other.
@@ -37,17 +36,16 @@ pub(crate) fn compare_reports(
     due: &Due,
     room: &[u32; ROOM],
     upto: usize,
-) -> io::Result<()> {
+) {
     let (pairs, _) = room.as_chunks::<2>();
     let mut found = pairs.iter();
     for (n, place) in due.between(spot.after, upto).iter().enumerate() {
         let at = spot.after.wrapping_add(n).wrapping_add(1);
         for number in place.numbers.iter() {
             let report = found.next().copied().unwrap_or([0, 0]);
-            compare_report(rt, counts, spot, *number, at, report)?;
+            compare_report(rt, counts, spot, *number, at, report);
         }
     }
-    Ok(())
 }
 
 // Room past the reports is unchanged.
@@ -56,7 +54,7 @@ pub(crate) fn compare_rest(
     counts: &mut Counts,
     spot: Spot,
     rest: &[u32],
-) -> io::Result<()> {
+) {
     for found in rest {
         compare(
             rt,
@@ -65,7 +63,6 @@ pub(crate) fn compare_rest(
             "room past the reports",
             u64::from(UNTOUCHED),
             u64::from(*found),
-        )?;
+        );
     }
-    Ok(())
 }

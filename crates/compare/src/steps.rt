@@ -1,6 +1,7 @@
 // Failure steps from their definition. A state is a part of the letter, from its start to its end, that is empty or a prefix of a
 // keyword.
 use crate::list::Piece;
+use crate::same::begins;
 
 // Whether the bytes read from a start on are a state.
 fn is_state(pieces: &[Piece], read: &[u8], start: usize) -> bool {
@@ -10,7 +11,7 @@ fn is_state(pieces: &[Piece], read: &[u8], start: usize) -> bool {
     part.is_empty()
         || pieces
             .iter()
-            .any(|piece| piece.keyword.as_slice().starts_with(part))
+            .any(|piece| begins(piece.keyword.as_slice(), part))
 }
 
 // The failure steps for a byte: the states that are suffixes of the bytes read before it and that do not go on with it, from the

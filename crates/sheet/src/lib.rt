@@ -40,6 +40,7 @@ pub const EXAMPLE: [u8; 27] = [
 ];
 
 // ── On lent bytes: each function answers where the next byte goes ──
+// Kept, holds: a lent buffer of any length, written from any place on, with every other byte as it was; a sheet has neither.
 
 // One byte.
 pub fn byte(book: &mut [u8], at: usize, value: u8) -> usize
