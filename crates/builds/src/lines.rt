@@ -1,6 +1,6 @@
 // A line for each book that is built.
 use builder::{BuildError, build};
-use std::{fmt, io};
+use std::fmt;
 use tables::Tables;
 use tables::layout::SIZE;
 
@@ -63,33 +63,30 @@ impl fmt::Display for Held {
     }
 }
 
-fn report(
-    rt: &impl Print,
-    what: &str,
-    answer: Result<usize, BuildError>,
-    memory: &[u8; MEMORY],
-) -> io::Result<()> {
+fn report(rt: &impl Print, what: &str, answer: Result<usize, BuildError>, memory: &[u8; MEMORY]) {
     let number = builder::number(answer);
     let offset = builder::offset(answer);
     let held = Held::from(memory);
     let past = if memory[SIZE] == OLD { "kept" } else { "lost" };
-    println!(rt; "{what}: build {number} at {offset}, {held}, the byte past the size {past}")
+    let _ = println!(rt;
+        "{what}: build {number} at {offset}, {held}, the byte past the size {past}"
+    );
 }
 
 // Builds the book into the first so many bytes of the memory, and writes the line.
-pub(crate) fn line(rt: &impl Print, what: &str, book: &[u8], lent: usize) -> io::Result<()> {
+pub(crate) fn line(rt: &impl Print, what: &str, book: &[u8], lent: usize) {
     let mut memory = [OLD; MEMORY];
     let Some(tables) = memory.get_mut(..lent) else {
-        return Ok(());
+        return;
     };
     let answer = build(book, tables);
-    report(rt, what, answer, &memory)
+    report(rt, what, answer, &memory);
 }
 
 // The same memory twice: the second book leaves nothing of the first.
-pub(crate) fn again(rt: &impl Print, what: &str, first: &[u8], second: &[u8]) -> io::Result<()> {
+pub(crate) fn again(rt: &impl Print, what: &str, first: &[u8], second: &[u8]) {
     let mut memory = [OLD; MEMORY];
     let _ = build(first, &mut memory);
     let answer = build(second, &mut memory);
-    report(rt, what, answer, &memory)
+    report(rt, what, answer, &memory);
 }

@@ -6,7 +6,6 @@ mod lines;
 
 use lines::{again, line};
 use sheet::{EXAMPLE, Sheet};
-use std::io;
 use tables::layout::SIZE;
 
 // ── The books ──
@@ -72,13 +71,13 @@ impl Shape {
 
 // ── The cases ──
 
-fn shaped(rt: &impl Print, what: &str, shape: Shape) -> io::Result<()> {
+fn shaped(rt: &impl Print, what: &str, shape: Shape) {
     let mut book = Book::new();
     shape.write(&mut book);
-    line(rt, what, book.as_slice(), SIZE)
+    line(rt, what, book.as_slice(), SIZE);
 }
 
-fn largest(rt: &impl Print) -> io::Result<()> {
+fn largest(rt: &impl Print) {
     shaped(
         rt,
         "128 phrases",
@@ -89,7 +88,7 @@ fn largest(rt: &impl Print) -> io::Result<()> {
             differ: false,
             phrases: 128,
         },
-    )?;
+    );
     shaped(
         rt,
         "256 pieces",
@@ -100,7 +99,7 @@ fn largest(rt: &impl Print) -> io::Result<()> {
             differ: false,
             phrases: 32,
         },
-    )?;
+    );
     shaped(
         rt,
         "128 phrases of 2 long pieces",
@@ -111,7 +110,7 @@ fn largest(rt: &impl Print) -> io::Result<()> {
             differ: false,
             phrases: 128,
         },
-    )?;
+    );
     shaped(
         rt,
         "2047 prefixes",
@@ -122,10 +121,10 @@ fn largest(rt: &impl Print) -> io::Result<()> {
             differ: true,
             phrases: 9,
         },
-    )
+    );
 }
 
-fn too_large(rt: &impl Print) -> io::Result<()> {
+fn too_large(rt: &impl Print) {
     shaped(
         rt,
         "129 phrases",
@@ -136,7 +135,7 @@ fn too_large(rt: &impl Print) -> io::Result<()> {
             differ: false,
             phrases: 129,
         },
-    )?;
+    );
     shaped(
         rt,
         "257 pieces",
@@ -147,7 +146,7 @@ fn too_large(rt: &impl Print) -> io::Result<()> {
             differ: false,
             phrases: 33,
         },
-    )?;
+    );
     shaped(
         rt,
         "2078 prefixes",
@@ -158,31 +157,27 @@ fn too_large(rt: &impl Print) -> io::Result<()> {
             differ: true,
             phrases: 9,
         },
-    )
+    );
 }
 
-fn small(rt: &impl Print) -> io::Result<()> {
+fn small(rt: &impl Print) {
     let mut crossed = EXAMPLE;
     crossed[LEAST_AT] = NINE;
     crossed[MOST_AT] = 1;
     let short = &EXAMPLE[..SHORT];
-    line(rt, "the example", &EXAMPLE, SIZE)?;
-    line(rt, "the example, least above most", &crossed, SIZE)?;
-    line(rt, "the example cut short", short, SIZE)?;
-    line(rt, "the empty book", b"", SIZE)?;
-    line(rt, "tables one byte short", &EXAMPLE, SIZE - 1)?;
-    line(rt, "no tables", &EXAMPLE, 0)?;
-    line(rt, "tables one byte longer", &EXAMPLE, SIZE + 1)?;
-    again(rt, "the example, then it cut short", &EXAMPLE, short)
+    line(rt, "the example", &EXAMPLE, SIZE);
+    line(rt, "the example, least above most", &crossed, SIZE);
+    line(rt, "the example cut short", short, SIZE);
+    line(rt, "the empty book", b"", SIZE);
+    line(rt, "tables one byte short", &EXAMPLE, SIZE - 1);
+    line(rt, "no tables", &EXAMPLE, 0);
+    line(rt, "tables one byte longer", &EXAMPLE, SIZE + 1);
+    again(rt, "the example, then it cut short", &EXAMPLE, short);
 }
 
-fn all(rt: &impl Print) -> io::Result<()> {
-    small(rt)?;
-    largest(rt)?;
-    too_large(rt)
-}
-
-// A line that can't be written ends the program, and leaves its status as it is.
+// A line that can't be written is left out; the lines after it are written still.
 fn main(rt: HostRuntime) {
-    let _ = all(&rt);
+    small(&rt);
+    largest(&rt);
+    too_large(&rt);
 }

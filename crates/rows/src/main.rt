@@ -10,7 +10,6 @@ mod refused;
 use refused::refused_build;
 use scanner::FeedError;
 use sheet::Sheet;
-use std::io;
 
 type Book = Sheet<256>;
 
@@ -33,12 +32,11 @@ struct Took {
 }
 
 // The first so many reports in the room.
-fn show(rt: &impl Print, room: &[u32; ROOM], reports: usize) -> io::Result<()> {
+fn show(rt: &impl Print, room: &[u32; ROOM], reports: usize) {
     let (pairs, _) = room.as_chunks::<2>();
     for [phrase, place] in pairs.iter().take(reports) {
-        print!(rt; " ({phrase},{place})")?;
+        let _ = print!(rt; " ({phrase},{place})");
     }
-    Ok(())
 }
 
 // What an answer says, with the reports that the room holds; none where the call was refused.
@@ -46,20 +44,20 @@ fn said(
     rt: &impl Print,
     answer: Result<scanner::Took, FeedError>,
     room: &[u32; ROOM],
-) -> io::Result<Option<Took>> {
+) -> Option<Took> {
     match answer {
         Ok(took) => {
-            show(rt, room, took.reports)?;
-            Ok(Some(Took {
+            show(rt, room, took.reports);
+            Some(Took {
                 taken: took.taken,
                 steps: took.steps,
-            }))
+            })
         }
         Err(FeedError::NoRoom) => {
-            print!(rt; " refused with 10")?;
-            Ok(None)
+            let _ = print!(rt; " refused with 10");
+            None
         }
-        Err(_) => Ok(None),
+        Err(_) => None,
     }
 }
 
@@ -89,11 +87,11 @@ impl<'a> Run<'a> {
     }
 
     // One call, with room for so many reports.
-    fn call(&mut self, rt: &impl Print, part: &[u8], reports: usize) -> io::Result<Option<Took>> {
+    fn call(&mut self, rt: &impl Print, part: &[u8], reports: usize) -> Option<Took> {
         let mut room = [0u32; ROOM];
         let slots = reports.saturating_mul(2);
         let Some(lent) = room.get_mut(..slots) else {
-            return Ok(None);
+            return None;
         };
         let tables = self.tables;
         let answer = scanner::feed(tables, &mut self.running, part, lent);
@@ -101,94 +99,86 @@ impl<'a> Run<'a> {
     }
 
     // The part, in as many calls as it takes; answers the failure steps.
-    fn use_up(&mut self, rt: &impl Print, part: &[u8], reports: usize) -> io::Result<u64> {
+    fn use_up(&mut self, rt: &impl Print, part: &[u8], reports: usize) -> u64 {
         let mut rest = part;
         let mut steps = 0u64;
         while !rest.is_empty() {
-            let Some(took) = self.call(rt, rest, reports)? else {
-                return Ok(steps);
+            let Some(took) = self.call(rt, rest, reports) else {
+                return steps;
             };
             steps = steps.wrapping_add(took.steps);
             let Some(more) = behind(rest, took.taken) else {
-                return Ok(steps);
+                return steps;
             };
             rest = more;
         }
-        Ok(steps)
+        steps
     }
 
     // The letter, in as many calls as it takes, each on a line of its own.
-    fn call_by_call(&mut self, rt: &impl Print, letter: &[u8], reports: usize) -> io::Result<()> {
+    fn call_by_call(&mut self, rt: &impl Print, letter: &[u8], reports: usize) {
         let mut rest = letter;
         while !rest.is_empty() {
-            print!(rt; "L with room for {reports}:")?;
-            let took = self.call(rt, rest, reports)?.unwrap_or_default();
+            let _ = print!(rt; "L with room for {reports}:");
+            let took = self.call(rt, rest, reports).unwrap_or_default();
             let taken = took.taken;
             let steps = took.steps;
-            println!(rt; " took {taken} steps {steps}")?;
+            let _ = println!(rt; " took {taken} steps {steps}");
             let Some(more) = behind(rest, taken) else {
-                return Ok(());
+                return;
             };
             rest = more;
         }
-        Ok(())
     }
 }
 
 // ── Ways to feed a letter ──
 
-fn whole(rt: &impl Print, tables: &[u8], letter: &[u8], reports: usize) -> io::Result<()> {
+fn whole(rt: &impl Print, tables: &[u8], letter: &[u8], reports: usize) {
     let Some(mut run) = Run::begin(tables) else {
-        return Ok(());
+        return;
     };
-    let steps = run.use_up(rt, letter, reports)?;
-    println!(rt; " steps {steps}")
+    let steps = run.use_up(rt, letter, reports);
+    let _ = println!(rt; " steps {steps}");
 }
 
 // The letter in these parts.
-fn in_parts(rt: &impl Print, tables: &[u8], first: &[u8], second: &[u8]) -> io::Result<()> {
+fn in_parts(rt: &impl Print, tables: &[u8], first: &[u8], second: &[u8]) {
     let Some(mut run) = Run::begin(tables) else {
-        return Ok(());
+        return;
     };
-    let before = run.use_up(rt, first, REPORTS)?;
-    let steps = before.wrapping_add(run.use_up(rt, second, REPORTS)?);
-    println!(rt; " steps {steps}")
+    let before = run.use_up(rt, first, REPORTS);
+    let steps = before.wrapping_add(run.use_up(rt, second, REPORTS));
+    let _ = println!(rt; " steps {steps}");
 }
 
-fn by_bytes(rt: &impl Print, tables: &[u8], letter: &[u8]) -> io::Result<()> {
+fn by_bytes(rt: &impl Print, tables: &[u8], letter: &[u8]) {
     let Some(mut run) = Run::begin(tables) else {
-        return Ok(());
+        return;
     };
     let mut steps = 0u64;
     for byte in letter.chunks(1) {
-        steps = steps.wrapping_add(run.use_up(rt, byte, REPORTS)?);
+        steps = steps.wrapping_add(run.use_up(rt, byte, REPORTS));
     }
-    println!(rt; " steps {steps}")
+    let _ = println!(rt; " steps {steps}");
 }
 
-fn cuts(rt: &impl Print, row: &str, tables: &[u8], letter: &[u8]) -> io::Result<()> {
+fn cuts(rt: &impl Print, row: &str, tables: &[u8], letter: &[u8]) {
     for at in 0..letter.len() {
-        print!(rt; "{row} cut at {at}:")?;
-        in_parts(rt, tables, &letter[..at], &letter[at..])?;
+        let _ = print!(rt; "{row} cut at {at}:");
+        in_parts(rt, tables, &letter[..at], &letter[at..]);
     }
-    Ok(())
 }
 
 // Every way, for a book of so many phrases.
-fn ways(
-    rt: &impl Print,
-    row: &str,
-    tables: &[u8],
-    letter: &[u8],
-    phrases: usize,
-) -> io::Result<()> {
-    print!(rt; "{row} whole:")?;
-    whole(rt, tables, letter, REPORTS)?;
-    print!(rt; "{row} with the least room:")?;
-    whole(rt, tables, letter, phrases)?;
-    print!(rt; "{row} byte by byte:")?;
-    by_bytes(rt, tables, letter)?;
-    cuts(rt, row, tables, letter)
+fn ways(rt: &impl Print, row: &str, tables: &[u8], letter: &[u8], phrases: usize) {
+    let _ = print!(rt; "{row} whole:");
+    whole(rt, tables, letter, REPORTS);
+    let _ = print!(rt; "{row} with the least room:");
+    whole(rt, tables, letter, phrases);
+    let _ = print!(rt; "{row} byte by byte:");
+    by_bytes(rt, tables, letter);
+    cuts(rt, row, tables, letter);
 }
 
 // ── The books ──
@@ -214,19 +204,13 @@ fn tables_of<W: FnOnce(&mut Book)>(phrases: u16, write: W) -> Option<[u8; TABLES
 }
 
 // Every way, for such a book.
-fn listed<W: FnOnce(&mut Book)>(
-    rt: &impl Print,
-    row: &str,
-    letter: &[u8],
-    phrases: u16,
-    write: W,
-) -> io::Result<()>
+fn listed<W: FnOnce(&mut Book)>(rt: &impl Print, row: &str, letter: &[u8], phrases: u16, write: W)
     requires { W.IsAlwaysCallable write }
 {
     let Some(tables) = tables_of(phrases, write) else {
-        return Ok(());
+        return;
     };
-    ways(rt, row, &tables, letter, usize::from(phrases))
+    ways(rt, row, &tables, letter, usize::from(phrases));
 }
 
 // A phrase of one keyword, anywhere.
@@ -244,16 +228,16 @@ fn pair(book: &mut Book, number: u16, first: &[u8], least: u16, most: u16, secon
 }
 
 // Row A's phrase: at the very start.
-fn at_start(rt: &impl Print, row: &str, keyword: &[u8], letter: &[u8]) -> io::Result<()> {
+fn at_start(rt: &impl Print, row: &str, keyword: &[u8], letter: &[u8]) {
     listed(rt, row, letter, 1, |book| {
         book.phrase(1, 1);
         book.bounded(0, 0);
         book.keyword(keyword);
-    })
+    });
 }
 
-fn anywhere(rt: &impl Print, row: &str, keyword: &[u8], letter: &[u8]) -> io::Result<()> {
-    listed(rt, row, letter, 1, |book| phrase(book, 1, keyword))
+fn anywhere(rt: &impl Print, row: &str, keyword: &[u8], letter: &[u8]) {
+    listed(rt, row, letter, 1, |book| phrase(book, 1, keyword));
 }
 
 fn between(
@@ -264,19 +248,19 @@ fn between(
     most: u16,
     second: &[u8],
     letter: &[u8],
-) -> io::Result<()> {
+) {
     listed(rt, row, letter, 1, |book| {
         pair(book, 1, first, least, most, second);
-    })
+    });
 }
 
 // Two keywords with an open gap between them.
-fn later(rt: &impl Print, row: &str, first: &[u8], second: &[u8], letter: &[u8]) -> io::Result<()> {
+fn later(rt: &impl Print, row: &str, first: &[u8], second: &[u8], letter: &[u8]) {
     listed(rt, row, letter, 1, |book| {
         phrase(book, 1, first);
         book.open(0);
         book.keyword(second);
-    })
+    });
 }
 
 // 1 ~aa, 2 ~abaaa, 3 ~abab.
@@ -286,65 +270,61 @@ fn three(book: &mut Book) {
     phrase(book, 3, b"abab");
 }
 
-fn of_three(rt: &impl Print, row: &str, letter: &[u8]) -> io::Result<()> {
-    listed(rt, row, letter, 3, |book| three(book))
+fn of_three(rt: &impl Print, row: &str, letter: &[u8]) {
+    listed(rt, row, letter, 3, |book| three(book));
 }
 
 // ── The rows ──
 
 // Row L, call by call.
-fn in_calls(rt: &impl Print, letter: &[u8], reports: usize) -> io::Result<()> {
+fn in_calls(rt: &impl Print, letter: &[u8], reports: usize) {
     let Some(tables) = tables_of(3, |book| three(book)) else {
-        return Ok(());
+        return;
     };
     let Some(mut run) = Run::begin(&tables) else {
-        return Ok(());
+        return;
     };
-    run.call_by_call(rt, letter, reports)
+    run.call_by_call(rt, letter, reports);
 }
 
 // Two letters a, with one or two bytes between them.
-fn near(rt: &impl Print, row: &str, letter: &[u8]) -> io::Result<()> {
-    between(rt, row, b"a", 1, 2, b"a", letter)
+fn near(rt: &impl Print, row: &str, letter: &[u8]) {
+    between(rt, row, b"a", 1, 2, b"a", letter);
 }
 
 // Twice aa, with nothing between them.
-fn doubled(rt: &impl Print, row: &str, letter: &[u8]) -> io::Result<()> {
-    between(rt, row, b"aa", 0, 0, b"aa", letter)
+fn doubled(rt: &impl Print, row: &str, letter: &[u8]) {
+    between(rt, row, b"aa", 0, 0, b"aa", letter);
 }
 
-fn rows_c_to_g(rt: &impl Print) -> io::Result<()> {
-    near(rt, "C", b"aa")?;
-    near(rt, "D", b"aba")?;
-    near(rt, "E", b"abba")?;
-    near(rt, "F", b"abbba")?;
-    near(rt, "G", b"aaaaa")
+fn rows_c_to_g(rt: &impl Print) {
+    near(rt, "C", b"aa");
+    near(rt, "D", b"aba");
+    near(rt, "E", b"abba");
+    near(rt, "F", b"abbba");
+    near(rt, "G", b"aaaaa");
 }
 
-fn rows_h_to_k(rt: &impl Print) -> io::Result<()> {
-    between(rt, "H", b"a", 2, 2, b"b", b"aaxb")?;
-    doubled(rt, "I", b"aaa")?;
-    doubled(rt, "J", b"aaaa")?;
-    later(rt, "K", b"a", b"b", b"aab")
+fn rows_h_to_k(rt: &impl Print) {
+    between(rt, "H", b"a", 2, 2, b"b", b"aaxb");
+    doubled(rt, "I", b"aaa");
+    doubled(rt, "J", b"aaaa");
+    later(rt, "K", b"a", b"b", b"aab");
 }
 
-fn rows_l_and_m(rt: &impl Print) -> io::Result<()> {
-    of_three(rt, "L", b"abaaabab")?;
-    of_three(rt, "M", b"")?;
-    in_calls(rt, b"abaaabab", 3)?;
-    in_calls(rt, b"abaaabab", 2)
+fn rows_l_and_m(rt: &impl Print) {
+    of_three(rt, "L", b"abaaabab");
+    of_three(rt, "M", b"");
+    in_calls(rt, b"abaaabab", 3);
+    in_calls(rt, b"abaaabab", 2);
 }
 
-fn all(rt: &impl Print) -> io::Result<()> {
-    at_start(rt, "A", b"ab", b"abab")?;
-    anywhere(rt, "B", b"ab", b"abab")?;
-    rows_c_to_g(rt)?;
-    rows_h_to_k(rt)?;
-    rows_l_and_m(rt)?;
-    refused_build(rt)
-}
-
-// A line that can't be written ends the program, and leaves its status as it is.
+// What can't be written is left out; what comes after it is written still.
 fn main(rt: HostRuntime) {
-    let _ = all(&rt);
+    at_start(&rt, "A", b"ab", b"abab");
+    anywhere(&rt, "B", b"ab", b"abab");
+    rows_c_to_g(&rt);
+    rows_h_to_k(&rt);
+    rows_l_and_m(&rt);
+    refused_build(&rt);
 }
