@@ -141,13 +141,7 @@ impl<'a> Case<'a> {
     // ── One letter ──
 
     // A part is offered until it is used up, then the next; at last an empty one.
-    fn feed_parts(
-        &self,
-        rt: &impl Print,
-        counts: &mut Counts,
-        way: Way,
-        running: &mut [u8],
-    ) {
+    fn feed_parts(&self, rt: &impl Print, counts: &mut Counts, way: Way, running: &mut [u8]) {
         let length = self.letter.len();
         let mut at = 0;
         while at < length {

@@ -76,12 +76,7 @@ fn reports_at(counts: &mut Counts, book: &Book, ends: &[Ends], n: usize) -> Opti
     Some(numbers)
 }
 
-fn find_places(
-    counts: &mut Counts,
-    book: &Book,
-    letter: &[u8],
-    places: &mut Places,
-) -> Option<()> {
+fn find_places(counts: &mut Counts, book: &Book, letter: &[u8], places: &mut Places) -> Option<()> {
     let pieces = book.pieces.as_slice();
     let mut ends = AllEnds::new();
     find_ends(pieces, letter, &mut ends)?;

@@ -114,5 +114,7 @@ pub(crate) fn summary(rt: &impl Print, counts: &Counts) {
     let cases = counts.cases;
     let reports = counts.reports;
     let differences = counts.differences;
-    let _ = println!(rt; "compared {cases} books and letters, {reports} reports, {differences} differences");
+    let _ = println!(rt;
+        "compared {cases} books and letters, {reports} reports, {differences} differences"
+    );
 }

@@ -113,12 +113,7 @@ fn all_ways(rt: &impl Print, counts: &mut Counts, case: &Case) {
 }
 
 // A book, and a letter for it, fed in every way; none where there is no room for them or for what is due.
-fn one_case(
-    rt: &impl Print,
-    counts: &mut Counts,
-    chance: &mut Chance,
-    number: u64,
-) -> Option<()> {
+fn one_case(rt: &impl Print, counts: &mut Counts, chance: &mut Chance, number: u64) -> Option<()> {
     let shape = shape_of(number);
     let bytes = books::drawn_bytes(chance, shape.alphabet);
     let book = books::drawn_book(chance, shape, &bytes)?;

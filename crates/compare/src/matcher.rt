@@ -11,10 +11,7 @@ pub(crate) type AllEnds = ArrayVec<Ends, PIECES>;
 
 // Whether a keyword that starts here follows an end of the piece before.
 fn follows(gap: Gap, before: &[bool], start: usize) -> bool {
-    before
-        .iter()
-        .enumerate()
-        .any(|(n, ends)| *ends && n < start && gap.admits(start - n - 1))
+    before.iter().enumerate().any(|(n, ends)| *ends && n < start && gap.admits(start - n - 1))
 }
 
 // Whether the piece ends behind these bytes, where the piece before ends at those places.

@@ -49,12 +49,7 @@ pub(crate) fn compare_reports(
 }
 
 // Room past the reports is unchanged.
-pub(crate) fn compare_rest(
-    rt: &impl Print,
-    counts: &mut Counts,
-    spot: Spot,
-    rest: &[u32],
-) {
+pub(crate) fn compare_rest(rt: &impl Print, counts: &mut Counts, spot: Spot, rest: &[u32]) {
     for found in rest {
         compare(
             rt,
