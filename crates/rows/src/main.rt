@@ -71,7 +71,7 @@ fn behind(rest: &[u8], taken: usize) -> Option<&[u8]>
     rest.get(taken..)
 }
 
-// A letter's run over the tables of a book.
+// A letter's run over the tables of a book. It is made where it stays: moving it would copy its memory.
 #[derive(Drop)]
 struct Run<'a> {
     tables: &'a [u8],
@@ -79,11 +79,10 @@ struct Run<'a> {
 }
 
 impl<'a> Run<'a> {
-    // A run that has begun; none where begin refuses.
-    fn begin(tables: &'a [u8]) -> Option<Run<'a>> {
-        let mut running = [0u8; RUNNING];
-        scanner::begin(tables, &mut running).ok()?;
-        Some(Run { tables, running })
+    // Begins; false where that is refused.
+    fn begin(&mut self) -> bool {
+        let tables = self.tables;
+        scanner::begin(tables, &mut self.running).is_ok()
     }
 
     // One call, with room for so many reports.
@@ -135,27 +134,39 @@ impl<'a> Run<'a> {
 // ── Ways to feed a letter ──
 
 fn whole(rt: &impl Print, tables: &[u8], letter: &[u8], reports: usize) {
-    let Some(mut run) = Run::begin(tables) else {
-        return;
+    let mut run = Run {
+        tables,
+        running: [0u8; RUNNING],
     };
+    if !run.begin() {
+        return;
+    }
     let steps = run.use_up(rt, letter, reports);
     let _ = println!(rt; " steps {steps}");
 }
 
 // The letter in these parts.
 fn in_parts(rt: &impl Print, tables: &[u8], first: &[u8], second: &[u8]) {
-    let Some(mut run) = Run::begin(tables) else {
-        return;
+    let mut run = Run {
+        tables,
+        running: [0u8; RUNNING],
     };
+    if !run.begin() {
+        return;
+    }
     let before = run.use_up(rt, first, REPORTS);
     let steps = before.wrapping_add(run.use_up(rt, second, REPORTS));
     let _ = println!(rt; " steps {steps}");
 }
 
 fn by_bytes(rt: &impl Print, tables: &[u8], letter: &[u8]) {
-    let Some(mut run) = Run::begin(tables) else {
-        return;
+    let mut run = Run {
+        tables,
+        running: [0u8; RUNNING],
     };
+    if !run.begin() {
+        return;
+    }
     let mut steps = 0u64;
     for byte in letter.chunks(1) {
         steps = steps.wrapping_add(run.use_up(rt, byte, REPORTS));
@@ -187,29 +198,25 @@ fn built(book: &[u8], tables: &mut [u8]) -> bool {
     builder::build(book, tables).is_ok()
 }
 
-// The tables of the book of so many phrases that is written on an empty sheet; none where it is refused.
-fn tables_of<W: FnOnce(&mut Book)>(phrases: u16, write: W) -> Option<[u8; TABLES]>
+// Builds the book of so many phrases that is written on an empty sheet; false where it is refused.
+fn built_of<W: FnOnce(&mut Book)>(tables: &mut [u8], phrases: u16, write: W) -> bool
     requires { W.IsAlwaysCallable write }
 {
     let mut book = Book::new();
     book.header(1);
     write(&mut book);
     book.end(phrases);
-    let mut tables = [0u8; TABLES];
-    if built(book.as_slice(), &mut tables) {
-        Some(tables)
-    } else {
-        None
-    }
+    built(book.as_slice(), tables)
 }
 
 // Every way, for such a book.
 fn listed<W: FnOnce(&mut Book)>(rt: &impl Print, row: &str, letter: &[u8], phrases: u16, write: W)
     requires { W.IsAlwaysCallable write }
 {
-    let Some(tables) = tables_of(phrases, write) else {
+    let mut tables = [0u8; TABLES];
+    if !built_of(&mut tables, phrases, write) {
         return;
-    };
+    }
     ways(rt, row, &tables, letter, usize::from(phrases));
 }
 
@@ -278,12 +285,17 @@ fn of_three(rt: &impl Print, row: &str, letter: &[u8]) {
 
 // Row L, call by call.
 fn in_calls(rt: &impl Print, letter: &[u8], reports: usize) {
-    let Some(tables) = tables_of(3, |book| three(book)) else {
+    let mut tables = [0u8; TABLES];
+    if !built_of(&mut tables, 3, |book| three(book)) {
         return;
+    }
+    let mut run = Run {
+        tables: &tables,
+        running: [0u8; RUNNING],
     };
-    let Some(mut run) = Run::begin(&tables) else {
+    if !run.begin() {
         return;
-    };
+    }
     run.call_by_call(rt, letter, reports);
 }
 
