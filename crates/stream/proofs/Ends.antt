@@ -5,7 +5,7 @@ use Rattle.pipes.specs.declared.reading.NotRead.{NotRead}
 use Rattle.pipes.specs.declared.letter.Totals.{Totals}
 use Rattle.pipes.specs.declared.letter.Standing.{Standing}
 use Rattle.pipes.specs.Letter.{OrNotWritten, LastPart, FullPart, PartRead, NextPart, NextBytes, Next, TurnWithin}
-use Rattle.stream.specs.Ends.{LetterEnd, EndFrom}
+use Rattle.stream.specs.Ends.{LetterEnd}
 
 -- After so many turns: a listing that was over at first has had none, and any other is over only by an end of its letter.
 abbrev pub Reached : Result (Option Standing) NotListed → ℕ → Result (Option Standing) NotListed → Type 0
@@ -54,14 +54,3 @@ call_reached (Ok (Some standing)) turns offered before later (Ok None) reached i
 call_reached (Ok (Some standing)) turns offered before later (Err told) reached is within = inr within
 call_reached (Ok None) turns offered before later after reached is within = absurd (cc (reached.1, is))
 call_reached (Err ended) turns offered before later after reached is within = absurd (cc (reached.1, is))
-
--- The end that a turn tells is that of the listing.
-pub listed_from : (first : Result (Option Standing) NotListed) (turns : ℕ) → Reached first turns (Ok None) → EndFrom first (Ok tt)
-listed_from (Ok (Some standing)) turns reached = tt
-listed_from (Ok None) turns reached = refl
-listed_from (Err ended) turns reached = absurd (cc reached.1)
-
-pub ended_from : (first : Result (Option Standing) NotListed) (turns : ℕ) (told : NotListed) → Reached first turns (Err told) → EndFrom first (Err told)
-ended_from (Ok (Some standing)) turns told reached = reached
-ended_from (Ok None) turns told reached = absurd (cc reached.1)
-ended_from (Err ended) turns told reached = cc reached.1
